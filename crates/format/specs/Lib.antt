@@ -1,0 +1,6 @@
+pub mod Refusals
+pub mod Numbers
+pub mod Integers
+pub mod Scalars
+pub mod Utf8
+pub mod Durations

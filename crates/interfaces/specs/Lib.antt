@@ -1,0 +1,4 @@
+pub mod Policies
+pub mod Writers
+pub mod Pieces
+pub mod Elements

@@ -1,0 +1,33 @@
+//! Policies: byte order, integer encoding, limit.
+ghost use mathlib.Core.Path.{_≡_};
+ghost use Rattle.interfaces.specs.Policies.{PolicyMeaning, PolicyLaws};
+use format::config::Endianness;
+use format::config::IntEncoding;
+
+/// What encoding and decoding are governed by: three constants.
+///
+/// A constant of a trait has no name in a clause, so beside each stands a function that answers it, whose contract ties it to the meaning.
+pub trait Policy {
+    ghost meaning: { PolicyMeaning };
+
+    ghost laws: { PolicyLaws meaning };
+
+    /// The byte order.
+    const ENDIAN: Endianness;
+    /// The integer encoding.
+    const INT_ENCODING: IntEncoding;
+    /// The limit on what a decoder may claim, if there is one.
+    const LIMIT: Option<u64>;
+
+    /// The byte order.
+    fn endianness() -> Endianness
+        ensures { λ r. ⌜ r ≡ meaning .order ⌝ };
+
+    /// The integer encoding.
+    fn integer_encoding() -> IntEncoding
+        ensures { λ r. ⌜ r ≡ meaning .encoding ⌝ };
+
+    /// The limit.
+    fn byte_limit() -> Option<u64>
+        ensures { λ r. ⌜ r ≡ meaning .limit ⌝ };
+}

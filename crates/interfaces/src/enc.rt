@@ -1,0 +1,4 @@
+//! Encoding: writers, encoders, and what can be encoded.
+pub mod element;
+pub mod encoder;
+pub mod write;
