@@ -1,10 +1,9 @@
 -- What a policy means, and the one thing that it owes.
-use mathlib.Core.Path.{_≡_}
 use Prim.Native.Nat.{ℕ, _^_, _<_}
-use Rattle.std.specs.declared.option.Option.{Option}
-use Rattle.std.specs.declared.option.Option.the-variants.{Some}
 use Rattle.format.specs.declared.config.Endianness.{Endianness}
 use Rattle.format.specs.declared.config.IntEncoding.{IntEncoding}
+use Rattle.std.specs.declared.option.Option.{Option}
+use Rattle.std.specs.declared.option.Option.the-variants.{Some, None}
 
 -- its three constants
 pub record PolicyMeaning : Type 0 where
@@ -13,5 +12,6 @@ pub record PolicyMeaning : Type 0 where
   pub limit : Option ℕ
 
 -- a limit is a number of 64 bits
-pub record PolicyLaws (p : PolicyMeaning) : Type 0 where
-  pub below : (l : ℕ) → p .limit ≡ Some l → l < 2 ^ 64
+abbrev pub Below64 : Option ℕ → Type 0
+Below64 None = Unit {0}
+Below64 (Some l) = l < 2 ^ 64

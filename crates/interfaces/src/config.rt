@@ -1,16 +1,16 @@
 //! Policies: byte order, integer encoding, limit.
 ghost use mathlib.Core.Path.{_≡_};
-ghost use Rattle.interfaces.specs.Policies.{PolicyMeaning, PolicyLaws};
+ghost use Rattle.interfaces.specs.Policies.{PolicyMeaning, Below64};
 use format::config::Endianness;
 use format::config::IntEncoding;
 
-/// What encoding and decoding are governed by: three constants.
+pub mod configuration;
+
+/// What encoding and decoding are governed by: three constants. Anybody may add a policy.
 ///
 /// A constant of a trait has no name in a clause, so beside each stands a function that answers it, whose contract ties it to the meaning.
 pub trait Policy {
     ghost meaning: { PolicyMeaning };
-
-    ghost laws: { PolicyLaws meaning };
 
     /// The byte order.
     const ENDIAN: Endianness;
@@ -29,5 +29,6 @@ pub trait Policy {
 
     /// The limit.
     fn byte_limit() -> Option<u64>
-        ensures { λ r. ⌜ r ≡ meaning .limit ⌝ };
+        ensures value { λ r. ⌜ r ≡ meaning .limit ⌝ }
+        ensures bound { λ _. ⌜ Below64 (meaning .limit) ⌝ };
 }
