@@ -1,7 +1,7 @@
 -- How integers are written, by bincode's specification. A writing is a list of pieces, each a list of bytes.
 use mathlib.Core.Bool.{Bool, cond}
 use mathlib.Core.List.{List, [], _∷_}
-use Prim.Native.Nat.{ℕ, suc, _+_, _-_, _*_, _^_}
+use Prim.Native.Nat.{ℕ, suc, _+_, _-_, _*_, _%_, _^_}
 use lib.Dec.{ltb}
 use lib.IntN.{ℤ, pos, negsuc}
 use Rattle.format.specs.Numbers.{bytes}
@@ -23,10 +23,10 @@ abbrev pub zigzag : ℤ → ℕ
 zigzag (pos n) = 2 * n
 zigzag (negsuc k) = 2 * k + 1
 
--- two's complement in w bytes: a number below zero goes as that number plus 256^w
+-- two's complement in w bytes, which is the number modulo 256^w: below zero, -k - 1 goes as 256^w - 1 - k where the width holds it
 abbrev pub complement : ℕ → ℤ → ℕ
-complement w (pos n) = n
-complement w (negsuc k) = 256 ^ w - suc k
+complement w (pos n) = n % 256 ^ w
+complement w (negsuc k) = 256 ^ w - suc (k % 256 ^ w)
 
 -- which numbers an unsigned and a signed integer of w bytes hold
 abbrev pub unsigned-range : ℕ → ℕ → Bool

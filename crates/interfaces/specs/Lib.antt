@@ -1,4 +1,3 @@
 pub mod Policies
 pub mod Writers
 pub mod Pieces
-pub mod Elements

@@ -1,4 +1,3 @@
 //! Encoding: writers, encoders, and what can be encoded.
-pub mod element;
 pub mod encoder;
 pub mod write;

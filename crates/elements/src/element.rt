@@ -1,7 +1,7 @@
 //! What can be encoded.
 ghost use mathlib.Core.Path.{_≡_};
-ghost use Rattle.interfaces.specs.Elements.{ElementMeaning, Encoded, within64};
-use crate::enc::encoder::Encoder;
+ghost use Rattle.elements.specs.Elements.{ElementMeaning, Encoded, within64};
+use interfaces::enc::encoder::Encoder;
 use format::error::EncodeError;
 
 /// A type whose values can be written.

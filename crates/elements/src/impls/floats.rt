@@ -1,0 +1,20 @@
+//! The double.
+ghost use Rattle.elements.specs.Scalars.{double};
+use primitives::varint::Width;
+use primitives::varint::put_number;
+use format::double::F64;
+use format::error::EncodeError;
+use crate::element::Element;
+use interfaces::enc::encoder::Encoder;
+
+pub impl Element for F64 as F64Element {
+    ghost meaning = { double };
+
+    fn encode<E: Encoder>(&self, encoder: &mut E) -> Result<(), EncodeError> {
+        put_number(encoder, Width::Eight, self.to_bits())
+    }
+
+    fn claim(&self) -> Option<u64> {
+        Some(8)
+    }
+}

@@ -1,0 +1,56 @@
+//! The unsigned integers wider than a byte.
+ghost use Rattle.elements.specs.Scalars.{unsigned};
+use primitives::varint::Width;
+use primitives::varint::encode_unsigned;
+use format::error::EncodeError;
+use crate::element::Element;
+use interfaces::enc::encoder::Encoder;
+
+pub impl Element for u16 as U16Element {
+    ghost meaning = { unsigned 2 };
+
+    fn encode<E: Encoder>(&self, encoder: &mut E) -> Result<(), EncodeError> {
+        encode_unsigned(encoder, Width::Two, u64::from(*self))
+    }
+
+    fn claim(&self) -> Option<u64> {
+        Some(2)
+    }
+}
+
+pub impl Element for u32 as U32Element {
+    ghost meaning = { unsigned 4 };
+
+    fn encode<E: Encoder>(&self, encoder: &mut E) -> Result<(), EncodeError> {
+        encode_unsigned(encoder, Width::Four, u64::from(*self))
+    }
+
+    fn claim(&self) -> Option<u64> {
+        Some(4)
+    }
+}
+
+pub impl Element for u64 as U64Element {
+    ghost meaning = { unsigned 8 };
+
+    fn encode<E: Encoder>(&self, encoder: &mut E) -> Result<(), EncodeError> {
+        encode_unsigned(encoder, Width::Eight, *self)
+    }
+
+    fn claim(&self) -> Option<u64> {
+        Some(8)
+    }
+}
+
+/// It goes as `u64`.
+pub impl Element for usize as UsizeElement {
+    ghost meaning = { unsigned 8 };
+
+    fn encode<E: Encoder>(&self, encoder: &mut E) -> Result<(), EncodeError> {
+        encode_unsigned(encoder, Width::Eight, *self as u64)
+    }
+
+    fn claim(&self) -> Option<u64> {
+        Some(8)
+    }
+}
