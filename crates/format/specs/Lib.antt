@@ -4,3 +4,4 @@ pub mod Integers
 pub mod Scalars
 pub mod Utf8
 pub mod Durations
+pub mod Doubles

@@ -1,6 +1,8 @@
 //! The double: IEEE 754's binary64, held as its bits.
 ghost use mathlib.Core.Path.{_≡_};
 
+pub mod number;
+
 /// A double. It holds and means its 64 bits, those of a NaN too: -0 is not 0, and NaNs with other bits are other values.
 #[derive(Clone, Copy, PartialEq, Eq, Debug)]
 pub struct F64 {

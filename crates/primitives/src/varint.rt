@@ -52,7 +52,7 @@ pub fn put_number<E: Encoder>(encoder: &mut E, width: Width, n: u64) -> Result<(
 }
 
 /// Offers a tag, and then a number in that many bytes.
-pub fn put_tagged<E: Encoder>(encoder: &mut E, tag: u8, width: Width, n: u64) -> Result<(), EncodeError>
+fn put_tagged<E: Encoder>(encoder: &mut E, tag: u8, width: Width, n: u64) -> Result<(), EncodeError>
     ensures { λ r. ⌜ Offered (W·Writer .meaning) (E·Encoder .writer (now (encoder .entry))) (tagged (C·Policy .meaning .order) tag (size width) n) r (E·Encoder .writer (now (encoder .exit))) ⌝ }
 {
     encoder.write(&[tag])?;
@@ -60,7 +60,7 @@ pub fn put_tagged<E: Encoder>(encoder: &mut E, tag: u8, width: Width, n: u64) ->
 }
 
 /// Offers the variable writing of a number.
-pub fn put_variable<E: Encoder>(encoder: &mut E, n: u64) -> Result<(), EncodeError>
+fn put_variable<E: Encoder>(encoder: &mut E, n: u64) -> Result<(), EncodeError>
     ensures { λ r. ⌜ Offered (W·Writer .meaning) (E·Encoder .writer (now (encoder .entry))) (variable (C·Policy .meaning .order) n) r (E·Encoder .writer (now (encoder .exit))) ⌝ }
 {
     if n < 251 {
@@ -85,7 +85,7 @@ pub fn encode_unsigned<E: Encoder>(encoder: &mut E, width: Width, n: u64) -> Res
 }
 
 /// The zigzag: 2n, or -2n - 1 below zero.
-pub fn zigzag(n: i64) -> u64
+fn zigzag(n: i64) -> u64
     ensures { λ r. ⌜ r ≡ zigzagged n ⌝ }
 {
     if n < 0 {

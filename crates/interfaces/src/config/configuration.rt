@@ -34,7 +34,7 @@ pub impl EndianConfig for LittleEndian as LittleEndianConfig {
     const ENDIAN: Endianness = Endianness::Little;
 
     fn endianness() -> Endianness {
-        Self::ENDIAN
+        LittleEndian::ENDIAN
     }
 }
 
@@ -47,7 +47,7 @@ pub impl EndianConfig for BigEndian as BigEndianConfig {
     const ENDIAN: Endianness = Endianness::Big;
 
     fn endianness() -> Endianness {
-        Self::ENDIAN
+        BigEndian::ENDIAN
     }
 }
 
@@ -72,7 +72,7 @@ pub impl IntEncodingConfig for Varint as VarintConfig {
     const INT_ENCODING: IntEncoding = IntEncoding::Variable;
 
     fn integer_encoding() -> IntEncoding {
-        Self::INT_ENCODING
+        Varint::INT_ENCODING
     }
 }
 
@@ -85,7 +85,7 @@ pub impl IntEncodingConfig for Fixint as FixintConfig {
     const INT_ENCODING: IntEncoding = IntEncoding::Fixed;
 
     fn integer_encoding() -> IntEncoding {
-        Self::INT_ENCODING
+        Fixint::INT_ENCODING
     }
 }
 
@@ -111,7 +111,7 @@ pub impl LimitConfig for NoLimit as NoLimitConfig {
     const LIMIT: Option<u64> = None;
 
     fn byte_limit() -> Option<u64> {
-        Self::LIMIT
+        NoLimit::LIMIT
     }
 }
 

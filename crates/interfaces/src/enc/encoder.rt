@@ -31,10 +31,8 @@ impl<W: Writer, C: Policy> EncoderImpl<W, C> {
     pub fn new(writer: W) -> EncoderImpl<W, C>
         ensures { λ r. ⌜ r .writer ≡ writer ⌝ }
     {
-        EncoderImpl {
-            writer,
-            config: PhantomData,
-        }
+        let config = PhantomData;
+        EncoderImpl { writer, config }
     }
 
     /// Ends the encoder and gives its writer back.

@@ -1,7 +1,7 @@
 use mathlib.Core.List.{[], _∷_}
 use Rattle.interfaces.proofs.Offers.{offered-one, offered-then, offered-stop}
 use Rattle.std.proofs.shelf.Results.{err-from-errBy}
-use Rattle.strings.proofs.encode_bytes.Needs as need
+use Rattle.strings.proofs.encode_both.Needs as need
 
 -- the length was refused
 pub returns-in-Break-encode-unsigned : need.returns-in-Break-encode-unsigned
