@@ -24,6 +24,6 @@ pub impl Element for bool as BoolElement {
     }
 
     fn claim(&self) -> Option<u64> {
-        Some(1)
+        u8::from(*self).claim()
     }
 }

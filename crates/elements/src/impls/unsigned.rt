@@ -47,10 +47,10 @@ pub impl Element for usize as UsizeElement {
     ghost meaning = { unsigned 8 };
 
     fn encode<E: Encoder>(&self, encoder: &mut E) -> Result<(), EncodeError> {
-        encode_unsigned(encoder, Width::Eight, *self as u64)
+        (*self as u64).encode(encoder)
     }
 
     fn claim(&self) -> Option<u64> {
-        Some(8)
+        (*self as u64).claim()
     }
 }
