@@ -1,3 +1,4 @@
 pub mod Policies
 pub mod Writers
+pub mod Lent
 pub mod Pieces

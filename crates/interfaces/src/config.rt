@@ -9,7 +9,7 @@ pub mod configuration;
 /// What encoding and decoding are governed by: three constants. Anybody may add a policy.
 ///
 /// A constant of a trait has no name in a clause, so beside each stands a function that answers it, whose contract ties it to the meaning.
-pub trait Policy {
+pub trait Policy: Copy {
     ghost meaning: { PolicyMeaning };
 
     /// The byte order.

@@ -11,10 +11,9 @@ ghost use Rattle.std.specs.declared.option.Option.the-variants.{Some, None};
 use crate::config::Policy;
 use format::config::Endianness;
 use format::config::IntEncoding;
-use std::marker::PhantomData;
 
 /// A byte order as a type.
-pub trait EndianConfig {
+pub trait EndianConfig: Copy {
     ghost order: { Order };
 
     /// The byte order.
@@ -26,6 +25,7 @@ pub trait EndianConfig {
 }
 
 /// The lowest byte first.
+#[derive(Clone, Copy)]
 pub struct LittleEndian;
 
 pub impl EndianConfig for LittleEndian as LittleEndianConfig {
@@ -39,6 +39,7 @@ pub impl EndianConfig for LittleEndian as LittleEndianConfig {
 }
 
 /// The highest byte first.
+#[derive(Clone, Copy)]
 pub struct BigEndian;
 
 pub impl EndianConfig for BigEndian as BigEndianConfig {
@@ -52,7 +53,7 @@ pub impl EndianConfig for BigEndian as BigEndianConfig {
 }
 
 /// An integer encoding as a type.
-pub trait IntEncodingConfig {
+pub trait IntEncodingConfig: Copy {
     ghost encoding: { Encoding };
 
     /// The integer encoding.
@@ -64,6 +65,7 @@ pub trait IntEncodingConfig {
 }
 
 /// Integers in as few bytes as their size asks for.
+#[derive(Clone, Copy)]
 pub struct Varint;
 
 pub impl IntEncodingConfig for Varint as VarintConfig {
@@ -77,6 +79,7 @@ pub impl IntEncodingConfig for Varint as VarintConfig {
 }
 
 /// Integers at the full width of their type.
+#[derive(Clone, Copy)]
 pub struct Fixint;
 
 pub impl IntEncodingConfig for Fixint as FixintConfig {
@@ -90,7 +93,7 @@ pub impl IntEncodingConfig for Fixint as FixintConfig {
 }
 
 /// A limit as a type.
-pub trait LimitConfig {
+pub trait LimitConfig: Copy {
     ghost limit: { Maybe ℕ };
 
     /// The limit, if there is one.
@@ -103,6 +106,7 @@ pub trait LimitConfig {
 }
 
 /// No limit.
+#[derive(Clone, Copy)]
 pub struct NoLimit;
 
 pub impl LimitConfig for NoLimit as NoLimitConfig {
@@ -116,6 +120,7 @@ pub impl LimitConfig for NoLimit as NoLimitConfig {
 }
 
 /// A limit of N bytes.
+#[derive(Clone, Copy)]
 pub struct Limit<const N: u64>;
 
 pub impl<const N: u64> LimitConfig for Limit<N> as LimitOfConfig {
@@ -130,10 +135,14 @@ pub impl<const N: u64> LimitConfig for Limit<N> as LimitOfConfig {
 }
 
 /// The policy of a byte order, an integer encoding and a limit.
+#[derive(Clone, Copy)]
 pub struct Configuration<E, I, L> {
-    order: PhantomData<E>,
-    encoding: PhantomData<I>,
-    limit: PhantomData<L>,
+    /// The byte order.
+    pub endian: E,
+    /// The integer encoding.
+    pub int_encoding: I,
+    /// The limit.
+    pub limit: L,
 }
 
 pub impl<E: EndianConfig, I: IntEncodingConfig, L: LimitConfig> Policy for Configuration<E, I, L> as ConfigurationPolicy {
@@ -166,3 +175,34 @@ pub type BV = Configuration<BigEndian, Varint, NoLimit>;
 pub type BF = Configuration<BigEndian, Fixint, NoLimit>;
 /// Big-endian, variable integers, limit 4,096.
 pub type BV4096 = Configuration<BigEndian, Varint, Limit<4096>>;
+
+/// The policy LV.
+pub const LITTLE_VARIABLE: LV = Configuration {
+    endian: LittleEndian,
+    int_encoding: Varint,
+    limit: NoLimit,
+};
+/// The policy LF.
+pub const LITTLE_FIXED: LF = Configuration {
+    endian: LittleEndian,
+    int_encoding: Fixint,
+    limit: NoLimit,
+};
+/// The policy BV.
+pub const BIG_VARIABLE: BV = Configuration {
+    endian: BigEndian,
+    int_encoding: Varint,
+    limit: NoLimit,
+};
+/// The policy BF.
+pub const BIG_FIXED: BF = Configuration {
+    endian: BigEndian,
+    int_encoding: Fixint,
+    limit: NoLimit,
+};
+/// The policy BV4096.
+pub const BIG_VARIABLE_4096: BV4096 = Configuration {
+    endian: BigEndian,
+    int_encoding: Varint,
+    limit: Limit,
+};

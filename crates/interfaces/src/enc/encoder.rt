@@ -4,7 +4,6 @@ ghost use Rattle.interfaces.specs.Writers.{Written};
 use crate::config::Policy;
 use crate::enc::write::Writer;
 use format::error::EncodeError;
-use std::marker::PhantomData;
 
 /// A writer under a policy. Neither is handed out: bytes go in by `write` alone.
 pub trait Encoder {
@@ -23,15 +22,14 @@ pub trait Encoder {
 /// The encoder over any writer and any policy.
 pub struct EncoderImpl<W, C> {
     writer: W,
-    config: PhantomData<C>,
+    config: C,
 }
 
 impl<W: Writer, C: Policy> EncoderImpl<W, C> {
-    /// An encoder that writes to `writer`.
-    pub fn new(writer: W) -> EncoderImpl<W, C>
-        ensures { λ r. ⌜ r .writer ≡ writer ⌝ }
+    /// An encoder that writes to `writer` under the policy `config`.
+    pub fn new(writer: W, config: C) -> EncoderImpl<W, C>
+        ensures { λ r. ⌜ r ≡ record { writer = writer; config = config } ⌝ }
     {
-        let config = PhantomData;
         EncoderImpl { writer, config }
     }
 

@@ -1,0 +1,3 @@
+//! The fourteen cases of the listing.
+pub mod line;
+pub mod listing;

@@ -1,0 +1,5 @@
+pub mod Stored
+pub mod Equal
+pub mod Sizes
+pub mod Slices
+pub mod Pages
