@@ -23,7 +23,6 @@ use encoding::encode_into_slice;
 use format::double::F64;
 use format::duration::Duration;
 use format::error::EncodeError;
-use format::error::ValueError;
 use format::scalar::Char;
 use interfaces::config::Policy;
 use interfaces::config::configuration::ConfigurationPolicy;
@@ -42,7 +41,7 @@ use writers::slice::SliceWriter;
 use writers::slice::SliceWriterWriter;
 
 /// How many bytes the record may have.
-const ROOM: usize = 80;
+const ROOM: usize = 75;
 
 /// The buffer, and how many bytes of its front are written.
 #[derive(Drop)]
@@ -130,7 +129,8 @@ fn put_others(board: &mut Board, rt: &LibcRuntime, unit: Char, soak: Duration) -
     board.put_bytes(rt, "seal bytes x0102030405", &[1, 2, 3, 4, 5])?;
     board.put_text(rt, "label text A-17 Ω", "A-17 Ω")?;
     board.put(rt, "last u64 251", &251u64)?;
-    board.put(rt, "end u8 255", &255u8)
+    board.put(rt, "end u8 255", &255u8)?;
+    board.put(rt, "more bool false", &false)
 }
 
 /// The record.
@@ -140,11 +140,15 @@ fn run(rt: &LibcRuntime) -> Result<(), AnyError> {
         at: 0,
     };
     put_numbers(&mut board, rt)?;
-    match (Char::new(937), Duration::new(3600, 250)) {
-        (Ok(unit), Ok(soak)) => put_others(&mut board, rt, unit, soak),
-        (Err(ValueError::NotScalar), _) => Err("NotScalar (10)".into()),
-        _ => Err("InvalidDuration (9)".into()),
-    }
+    let unit = match Char::new(937) {
+        Ok(unit) => unit,
+        Err(_) => return Err("NotScalar (10)".into()),
+    };
+    let soak = match Duration::new(3600, 250) {
+        Ok(soak) => soak,
+        Err(_) => return Err("InvalidDuration (9)".into()),
+    };
+    put_others(&mut board, rt, unit, soak)
 }
 
 fn main(rt: LibcRuntime) -> Result<(), AnyError> {
