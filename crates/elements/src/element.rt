@@ -1,8 +1,8 @@
 //! What can be encoded.
 ghost use mathlib.Core.Path.{_≡_};
 ghost use Rattle.elements.specs.Elements.{ElementMeaning, Encoded, within64};
-use interfaces::enc::encoder::Encoder;
 use format::error::EncodeError;
+use interfaces::enc::encoder::Encoder;
 
 /// A type whose values can be written.
 pub trait Element: Sized {

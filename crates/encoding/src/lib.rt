@@ -21,7 +21,11 @@ pub struct Stored {
 }
 
 /// Encodes a value into a writer that is handed over, and gives the writer back.
-fn encode_owned<T: Element, W: Writer, C: Policy>(value: &T, writer: W, config: C) -> (Result<(), EncodeError>, W)
+fn encode_owned<T: Element, W: Writer, C: Policy>(
+    value: &T,
+    writer: W,
+    config: C,
+) -> (Result<(), EncodeError>, W)
     ensures { λ r. ⌜ Encoded (T·Element .meaning) (C·Policy .meaning) (W·Writer .meaning) writer (now (value .entry)) (r .0) (r .1) ⌝ }
 {
     let mut encoder = EncoderImpl::new(writer, config);
@@ -30,7 +34,11 @@ fn encode_owned<T: Element, W: Writer, C: Policy>(value: &T, writer: W, config: 
 }
 
 /// Encodes a value into a writer under a policy.
-pub fn encode_into_writer<T: Element, W: Writer, C: Policy>(value: &T, writer: &mut W, config: C) -> Result<(), EncodeError>
+pub fn encode_into_writer<T: Element, W: Writer, C: Policy>(
+    value: &T,
+    writer: &mut W,
+    config: C,
+) -> Result<(), EncodeError>
     ensures { λ r. ⌜ Encoded (T·Element .meaning) (C·Policy .meaning) (W·Writer .meaning) (now (writer .entry)) (now (value .entry)) r (now (writer .exit)) ⌝ }
 {
     let (answer, _writer) = encode_owned::<T, &mut W, C>(value, writer, config);

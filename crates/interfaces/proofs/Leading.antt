@@ -53,7 +53,7 @@ leading-fits n [] = omega arith
 leading-fits n (p ∷ ps) =
     cond-both (leb (length p) n) (p ∷ leading (n - length p) ps) [] (λ x. length (joined x) ≤ n)
     (λ e. let first : length p ≤ n = leb-true (length p) n e in
-          let rest = leading-fits (n - length p) ps in
-          let l = length-append p (joined (leading (n - length p) ps)) in
-          omega arith)
+    let rest = leading-fits (n - length p) ps in
+    let l = length-append p (joined (leading (n - length p) ps)) in
+    omega arith)
     (λ _. omega arith)

@@ -7,11 +7,17 @@ use format::scalar::Char;
 use interfaces::enc::encoder::Encoder;
 
 const TAG_CONT: u8 = 0b1000_0000;
+
 const TAG_TWO_B: u8 = 0b1100_0000;
+
 const TAG_THREE_B: u8 = 0b1110_0000;
+
 const TAG_FOUR_B: u8 = 0b1111_0000;
+
 const MAX_ONE_B: u32 = 0x80;
+
 const MAX_TWO_B: u32 = 0x800;
+
 const MAX_THREE_B: u32 = 0x1_0000;
 
 /// The byte that carries the six lowest bits of a number.
@@ -31,9 +37,22 @@ pub fn encode_utf8<E: Encoder>(encoder: &mut E, c: Char) -> Result<(), EncodeErr
     } else if code < MAX_TWO_B {
         encoder.write(&[TAG_TWO_B + (code / 64) as u8, continuation(code)])
     } else if code < MAX_THREE_B {
-        encoder.write(&[TAG_THREE_B + (code / 4096) as u8, continuation(code / 64), continuation(code)])
+        encoder.write(
+            &[
+                TAG_THREE_B + (code / 4096) as u8,
+                continuation(code / 64),
+                continuation(code),
+            ],
+        )
     } else {
-        encoder.write(&[TAG_FOUR_B + (code / 262144) as u8, continuation(code / 4096), continuation(code / 64), continuation(code)])
+        encoder.write(
+            &[
+                TAG_FOUR_B + (code / 262144) as u8,
+                continuation(code / 4096),
+                continuation(code / 64),
+                continuation(code),
+            ],
+        )
     }
 }
 
@@ -41,14 +60,10 @@ pub fn encode_utf8<E: Encoder>(encoder: &mut E, c: Char) -> Result<(), EncodeErr
 pub fn utf8_width(c: Char) -> u64
     ensures { λ r. ⌜ r ≡ width (c .code) ⌝ }
 {
-    let code = c.code();
-    if code < MAX_ONE_B {
-        1
-    } else if code < MAX_TWO_B {
-        2
-    } else if code < MAX_THREE_B {
-        3
-    } else {
-        4
+    match c.code() {
+        0..MAX_ONE_B => 1,
+        MAX_ONE_B..MAX_TWO_B => 2,
+        MAX_TWO_B..MAX_THREE_B => 3,
+        _ => 4,
     }
 }

@@ -13,7 +13,9 @@ use interfaces::enc::encoder::Encoder;
 
 /// The byte before a number in two bytes, in four and in eight; all below are numbers themselves.
 const U16_BYTE: u8 = 251;
+
 const U32_BYTE: u8 = 252;
+
 const U64_BYTE: u8 = 253;
 
 /// How many bytes an integer has.

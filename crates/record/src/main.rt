@@ -52,7 +52,12 @@ struct Board {
 
 impl Board {
     /// Encodes a value behind what is written.
-    fn put<T: Element>(&mut self, rt: &LibcRuntime, label: &str, value: &T) -> Result<(), AnyError> {
+    fn put<T: Element>(
+        &mut self,
+        rt: &LibcRuntime,
+        label: &str,
+        value: &T,
+    ) -> Result<(), AnyError> {
         let start = self.at.min(ROOM);
         let stored = encode_into_slice(value, &mut self.buffer[start..ROOM], LITTLE_VARIABLE);
         self.told(rt, label, start, stored)
@@ -61,7 +66,11 @@ impl Board {
     /// Encodes a byte string behind what is written.
     fn put_bytes(&mut self, rt: &LibcRuntime, label: &str, bytes: &[u8]) -> Result<(), AnyError> {
         let start = self.at.min(ROOM);
-        let (answer, writer) = bytes_into(bytes, SliceWriter::new(&mut self.buffer[start..ROOM]), LITTLE_VARIABLE);
+        let (answer, writer) = bytes_into(
+            bytes,
+            SliceWriter::new(&mut self.buffer[start..ROOM]),
+            LITTLE_VARIABLE,
+        );
         let len = writer.bytes_written();
         self.told(rt, label, start, Stored { answer, len })
     }
@@ -69,13 +78,23 @@ impl Board {
     /// Encodes a text behind what is written.
     fn put_text(&mut self, rt: &LibcRuntime, label: &str, text: &str) -> Result<(), AnyError> {
         let start = self.at.min(ROOM);
-        let (answer, writer) = text_into(text, SliceWriter::new(&mut self.buffer[start..ROOM]), LITTLE_VARIABLE);
+        let (answer, writer) = text_into(
+            text,
+            SliceWriter::new(&mut self.buffer[start..ROOM]),
+            LITTLE_VARIABLE,
+        );
         let len = writer.bytes_written();
         self.told(rt, label, start, Stored { answer, len })
     }
 
     /// Prints what a call did, and moves behind the bytes that it left.
-    fn told(&mut self, rt: &LibcRuntime, label: &str, start: usize, stored: Stored) -> Result<(), AnyError> {
+    fn told(
+        &mut self,
+        rt: &LibcRuntime,
+        label: &str,
+        start: usize,
+        stored: Stored,
+    ) -> Result<(), AnyError> {
         match stored.answer {
             Ok(()) => print!(rt, "{label}: ok ")?,
             Err(EncodeError::UnexpectedEnd) => print!(rt, "{label}: UnexpectedEnd (1) ")?,
@@ -91,14 +110,22 @@ impl Board {
 }
 
 /// Encodes a byte string into a writer, and gives the writer back.
-fn bytes_into<W: Writer, C: Policy>(bytes: &[u8], writer: W, config: C) -> (Result<(), EncodeError>, W) {
+fn bytes_into<W: Writer, C: Policy>(
+    bytes: &[u8],
+    writer: W,
+    config: C,
+) -> (Result<(), EncodeError>, W) {
     let mut encoder = EncoderImpl::new(writer, config);
     let answer = encode_bytes(bytes, &mut encoder);
     (answer, encoder.into_writer())
 }
 
 /// Encodes a text into a writer, and gives the writer back.
-fn text_into<W: Writer, C: Policy>(text: &str, writer: W, config: C) -> (Result<(), EncodeError>, W) {
+fn text_into<W: Writer, C: Policy>(
+    text: &str,
+    writer: W,
+    config: C,
+) -> (Result<(), EncodeError>, W) {
     let mut encoder = EncoderImpl::new(writer, config);
     let answer = encode_str(text, &mut encoder);
     (answer, encoder.into_writer())
@@ -115,16 +142,33 @@ fn put_numbers(board: &mut Board, rt: &LibcRuntime) -> Result<(), AnyError> {
     board.put(rt, "offset i16 -12", &-12i16)?;
     board.put(rt, "drift i32 -70000", &-70000i32)?;
     board.put(rt, "energy i64 250", &250i64)?;
-    board.put(rt, "volts f64 400d333333333333", &F64::from_bits(0x400d_3333_3333_3333))
+    board.put(
+        rt,
+        "volts f64 400d333333333333",
+        &F64::from_bits(0x400d_3333_3333_3333),
+    )
 }
 
 /// The values of the other types.
-fn put_others(board: &mut Board, rt: &LibcRuntime, unit: Char, soak: Duration) -> Result<(), AnyError> {
+fn put_others(
+    board: &mut Board,
+    rt: &LibcRuntime,
+    unit: Char,
+    soak: Duration,
+) -> Result<(), AnyError> {
     board.put(rt, "unit char 937", &unit)?;
     board.put(rt, "soak Duration 3600s250n", &soak)?;
     board.put(rt, "limit Option<u16> Some(4200)", &Some(4200u16))?;
-    board.put(rt, "verdict Result<u8,bool> Ok(7)", &Result::<u8, bool>::Ok(7))?;
-    board.put(rt, "upper Bound<u32> Excluded(65536)", &Bound::Excluded(65536u32))?;
+    board.put(
+        rt,
+        "verdict Result<u8,bool> Ok(7)",
+        &Result::<u8, bool>::Ok(7),
+    )?;
+    board.put(
+        rt,
+        "upper Bound<u32> Excluded(65536)",
+        &Bound::Excluded(65536u32),
+    )?;
     board.put(rt, "range (u32,i16) (5,-1)", &(5u32, -1i16))?;
     board.put_bytes(rt, "seal bytes x0102030405", &[1, 2, 3, 4, 5])?;
     board.put_text(rt, "label text A-17 Ω", "A-17 Ω")?;

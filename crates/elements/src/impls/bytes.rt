@@ -1,7 +1,7 @@
 //! `u8` and `bool`: one byte in both integer encodings.
 ghost use Rattle.elements.specs.Scalars.{byte, truth};
-use format::error::EncodeError;
 use crate::element::Element;
+use format::error::EncodeError;
 use interfaces::enc::encoder::Encoder;
 
 pub impl Element for u8 as U8Element {

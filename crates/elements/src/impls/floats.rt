@@ -1,11 +1,11 @@
 //! The double.
 ghost use Rattle.elements.specs.Scalars.{double};
-use primitives::varint::Width;
-use primitives::varint::put_number;
+use crate::element::Element;
 use format::double::F64;
 use format::error::EncodeError;
-use crate::element::Element;
 use interfaces::enc::encoder::Encoder;
+use primitives::varint::Width;
+use primitives::varint::put_number;
 
 pub impl Element for F64 as F64Element {
     ghost meaning = { double };

@@ -8,7 +8,11 @@ use format::error::EncodeError;
 use interfaces::enc::encoder::Encoder;
 
 /// Encodes one value and then another.
-pub(crate) fn encode_both<T: Element, U: Element, E: Encoder>(first: &T, second: &U, encoder: &mut E) -> Result<(), EncodeError>
+pub(crate) fn encode_both<T: Element, U: Element, E: Encoder>(
+    first: &T,
+    second: &U,
+    encoder: &mut E,
+) -> Result<(), EncodeError>
     ensures { λ r. ⌜ Encoded (pair (T·Element .meaning) (U·Element .meaning)) (C·Policy .meaning) (W·Writer .meaning) (E·Encoder .writer (now (encoder .entry))) (now (first .entry), now (second .entry)) r (E·Encoder .writer (now (encoder .exit))) ⌝ }
 {
     first.encode(encoder)?;

@@ -1,10 +1,10 @@
 //! The signed integers.
 ghost use Rattle.elements.specs.Scalars.{signed};
+use crate::element::Element;
+use format::error::EncodeError;
+use interfaces::enc::encoder::Encoder;
 use primitives::varint::Width;
 use primitives::varint::encode_signed;
-use format::error::EncodeError;
-use crate::element::Element;
-use interfaces::enc::encoder::Encoder;
 
 pub impl Element for i16 as I16Element {
     ghost meaning = { signed 2 };

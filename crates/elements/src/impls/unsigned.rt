@@ -1,10 +1,10 @@
 //! The unsigned integers wider than a byte.
 ghost use Rattle.elements.specs.Scalars.{unsigned};
+use crate::element::Element;
+use format::error::EncodeError;
+use interfaces::enc::encoder::Encoder;
 use primitives::varint::Width;
 use primitives::varint::encode_unsigned;
-use format::error::EncodeError;
-use crate::element::Element;
-use interfaces::enc::encoder::Encoder;
 
 pub impl Element for u16 as U16Element {
     ghost meaning = { unsigned 2 };

@@ -38,9 +38,8 @@ impl F64 {
         ensures { λ r. ⌜ Number-of (self .bits) r ⌝ }
     {
         if self.is_nan() {
-            None
-        } else {
-            Some(f64::from_bits(self.bits))
+            return None;
         }
+        Some(f64::from_bits(self.bits))
     }
 }

@@ -145,11 +145,17 @@ pub struct Configuration<E, I, L> {
     pub limit: L,
 }
 
-pub impl<E: EndianConfig, I: IntEncodingConfig, L: LimitConfig> Policy for Configuration<E, I, L> as ConfigurationPolicy {
+pub impl<E: EndianConfig, I: IntEncodingConfig, L: LimitConfig> Policy for Configuration<
+    E,
+    I,
+    L,
+> as ConfigurationPolicy {
     ghost meaning = { record { order = E·EndianConfig .order; encoding = I·IntEncodingConfig .encoding; limit = L·LimitConfig .limit } };
 
     const ENDIAN: Endianness = E::ENDIAN;
+
     const INT_ENCODING: IntEncoding = I::INT_ENCODING;
+
     const LIMIT: Option<u64> = L::LIMIT;
 
     fn endianness() -> Endianness {

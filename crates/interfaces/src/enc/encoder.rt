@@ -44,6 +44,7 @@ impl<W: Writer, C: Policy> EncoderImpl<W, C> {
 
 pub impl<W: Writer, C: Policy> Encoder for EncoderImpl<W, C> as EncoderImplEncoder {
     type W = W;
+
     type C = C;
 
     ghost writer = { λ e. e .writer };
