@@ -12,7 +12,7 @@ use Rattle.elements.specs.Elements.{ElementMeaning, within64}
 use Rattle.format.specs.declared.double.F64.{F64}
 use Rattle.format.specs.declared.duration.Duration.{Duration}
 use Rattle.format.specs.declared.scalar.Char.{Char}
-use Rattle.interfaces.specs.Pieces.{joined}
+use Rattle.format.specs.Pieces.{joined}
 use Rattle.interfaces.specs.Policies.{PolicyMeaning}
 use Rattle.std.specs.declared.option.Option.the-variants.{Some}
 use Rattle.std.specs.declared.result.Result.the-variants.{Err}

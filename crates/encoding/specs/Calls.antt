@@ -8,7 +8,8 @@ use lib.ListN.{length, drop}
 use Rattle.elements.specs.Elements.{ElementMeaning}
 use Rattle.encoding.specs.declared.Stored.{Stored}
 use Rattle.format.specs.Refusals.{answer, encode-refusal}
-use Rattle.interfaces.specs.Pieces.{joined, leading}
+use Rattle.format.specs.Pieces.{joined}
+use Rattle.interfaces.specs.Pieces.{leading}
 use Rattle.interfaces.specs.Policies.{PolicyMeaning}
 use Rattle.interfaces.specs.Writers.{verdict}
 use Rattle.std.specs.Results.{isOk}

@@ -1,2 +1,3 @@
 -- The lemmas that the proofs of this crate use.
 mod Doubles
+pub mod Numbers

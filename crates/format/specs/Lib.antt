@@ -1,5 +1,6 @@
 pub mod Refusals
 pub mod Numbers
+pub mod Pieces
 pub mod Integers
 pub mod Scalars
 pub mod Utf8

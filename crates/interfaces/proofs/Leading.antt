@@ -7,7 +7,8 @@ use native.Mathlib.Omega.{arith}
 use borrow.Author.Tests.{leb-true, leb-false, le-leb, lt-leb}
 use lib.Dec.{leb}
 use lib.ListN.{length, length-append}
-use Rattle.interfaces.specs.Pieces.{joined, leading}
+use Rattle.format.specs.Pieces.{joined}
+use Rattle.interfaces.specs.Pieces.{leading}
 use Rattle.std.proofs.shelf.Tests.{cond-true, cond-false, cond-both}
 
 pub joined-append : (ps qs : List (List ℕ)) → joined (ps ++ qs) ≡ joined ps ++ joined qs

@@ -1,19 +1,15 @@
 -- What it is to offer a list of pieces to a writer, in order, up to the first that does not fit.
 use mathlib.Core.Bool.{cond}
-use mathlib.Core.List.{List, [], _∷_, _++_}
+use mathlib.Core.List.{List, [], _∷_}
 use mathlib.Core.Path.{_≡_}
 use Prim.Native.Nat.{ℕ, _-_}
 use lib.Dec.{leb}
 use lib.ListN.{length}
+use Rattle.format.specs.Pieces.{joined}
 use Rattle.format.specs.Refusals.{answer, encode-refusal}
 use Rattle.format.specs.declared.error.EncodeError.{EncodeError}
 use Rattle.interfaces.specs.Writers.{WriterMeaning, verdict}
 use Rattle.std.specs.declared.result.Result.{Result}
-
--- the bytes of all pieces in a row
-abbrev pub joined : List (List ℕ) → List ℕ
-joined [] = []
-joined (p ∷ ps) = p ++ joined ps
 
 -- the pieces before the first that does not fit what is still free of n bytes
 abbrev pub leading : ℕ → List (List ℕ) → List (List ℕ)

@@ -12,7 +12,8 @@ use lib.Seq.{sets-eq}
 use Rattle.format.specs.Refusals.{given, refused, answer, encode-refusal}
 use Rattle.format.specs.declared.error.EncodeError.{EncodeError}
 use Rattle.interfaces.proofs.Leading.{leading-all, leading-fits}
-use Rattle.interfaces.specs.Pieces.{joined, leading, Offered}
+use Rattle.format.specs.Pieces.{joined}
+use Rattle.interfaces.specs.Pieces.{leading, Offered}
 use Rattle.interfaces.specs.Writers.{Written, verdict}
 use Rattle.std.proofs.shelf.Tests.{cond-true, cond-false}
 use Rattle.std.specs.declared.result.Result.{Result}

@@ -10,7 +10,8 @@ use Rattle.elements.specs.Scalars.{unsigned}
 use Rattle.format.specs.Durations.{duration-parts}
 use Rattle.format.specs.Refusals.{given}
 use Rattle.format.specs.Utf8.{utf8, width}
-use Rattle.interfaces.specs.Pieces.{joined, leading}
+use Rattle.format.specs.Pieces.{joined}
+use Rattle.interfaces.specs.Pieces.{leading}
 use Rattle.std.specs.declared.result.Result.the-variants.{Ok}
 
 -- the line of the character with this code, and that of a duration of these seconds and nanoseconds

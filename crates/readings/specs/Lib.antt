@@ -1,0 +1,4 @@
+pub mod Claims
+pub mod Readings
+pub mod Laws
+pub mod Integers
