@@ -1,0 +1,3 @@
+//! Decoding: readers and decoders.
+pub mod decoder;
+pub mod read;
