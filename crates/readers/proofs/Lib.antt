@@ -1,0 +1,3 @@
+mod Cut
+pub mod Fills
+mod Rounds

@@ -1,0 +1,8 @@
+-- Each byte is one of the first part or of the second.
+use borrow.Author.Needs.{needs}
+use native.Mathlib.Omega.{arith}
+use Rattle.std.proofs.shelf.Lists.{places, same-lists}
+use Rattle.readers.proofs.ring.methods.copy_both.Needs as need
+
+pub returns : need.returns
+returns c = same-lists _ _ (search (needs, places)) (λ k d h. grind (arith, places))

@@ -1,0 +1,5 @@
+pub mod Slices
+pub mod Wraps
+pub mod Equal
+pub mod Rings
+pub mod Unseen
