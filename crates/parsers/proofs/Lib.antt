@@ -1,0 +1,4 @@
+mod Rows
+mod Tags
+mod Seen
+mod Peeks
