@@ -1,55 +1,47 @@
 //! What a row asks, and the tests: the answers of bincode, and the format's own rules.
-use Under::BF;
-use Under::BV;
-use Under::LF;
-use Under::LV;
+use Under::*;
 use elements::element::Element;
-use elements::impls::bytes::BoolElement;
-use elements::impls::bytes::U8Element;
-use elements::impls::floats::F64Element;
-use elements::impls::pairs::PairElement;
-use elements::impls::signed::I16Element;
-use elements::impls::signed::I32Element;
-use elements::impls::signed::I64Element;
-use elements::impls::sums::BoundElement;
-use elements::impls::sums::OptionElement;
-use elements::impls::sums::ResultElement;
-use elements::impls::text::CharElement;
-use elements::impls::time::DurationElement;
-use elements::impls::unsigned::U16Element;
-use elements::impls::unsigned::U32Element;
-use elements::impls::unsigned::U64Element;
-use elements::impls::unsigned::UsizeElement;
-use encoding::Stored;
-use encoding::encode_into_slice;
-use format::double::F64;
-use format::duration::Duration;
-use format::error::EncodeError;
+use elements::impls::bytes::*;
+use elements::impls::floats::*;
+use elements::impls::pairs::*;
+use elements::impls::signed::*;
+use elements::impls::sums::*;
+use elements::impls::text::*;
+use elements::impls::time::*;
+use elements::impls::unsigned::*;
+use encoding::*;
+use format::config::*;
+use format::double::*;
+use format::duration::*;
 use format::error::EncodeError::UnexpectedEnd;
-use format::error::EncodeErrorDebug;
-use format::error::EncodeErrorPartialEq;
-use format::error::ValueErrorDebug;
-use format::scalar::Char;
+use format::error::*;
+use format::scalar::*;
 use interfaces::config::Policy;
-use interfaces::config::configuration::BIG_FIXED;
-use interfaces::config::configuration::BIG_VARIABLE;
-use interfaces::config::configuration::BigEndianConfig;
-use interfaces::config::configuration::ConfigurationPolicy;
-use interfaces::config::configuration::FixintConfig;
-use interfaces::config::configuration::LITTLE_FIXED;
-use interfaces::config::configuration::LITTLE_VARIABLE;
-use interfaces::config::configuration::LittleEndianConfig;
-use interfaces::config::configuration::NoLimitConfig;
-use interfaces::config::configuration::VarintConfig;
-use interfaces::enc::encoder::EncoderImpl;
-use interfaces::enc::encoder::EncoderImplEncoder;
-use interfaces::enc::write::Writer;
+use interfaces::config::configuration::*;
+use interfaces::enc::encoder::*;
+use interfaces::enc::write::*;
 use std::ops::Bound;
 use std::test::*;
-use strings::encode_bytes;
-use strings::encode_str;
-use writers::slice::SliceWriter;
-use writers::slice::SliceWriterWriter;
+use strings::*;
+use writers::page::methods::*;
+use writers::page::*;
+use writers::size::*;
+use writers::slice::*;
+
+/// Runs a function on a table: behind its name stand the rows, each on a line and with `;` at its end.
+macro_rules! table {
+    ($run:path; $($($cell:expr),*;)*) => {
+        $run(&[$(($($cell),*)),*])
+    };
+}
+
+/// Calls a function for each row, with what stands in it.
+macro_rules! each {
+    ($run:path; $($($cell:expr),*;)*) => {{
+        $($run($($cell),*)?;)*
+        Ok::<(), Fail>(())
+    }};
+}
 
 mod answers;
 mod boundaries;
@@ -60,28 +52,27 @@ const SIZE: usize = 64;
 /// What each of them is before the call.
 const FILL: u8 = 0xa5;
 
-/// The policy of a row, by its short name.
+/// The answer of an encode call.
+type Answer = Result<(), EncodeError>;
+
+/// The policy of a row, by its short name: little-endian or big-endian, with variable or fixed integers.
 #[derive(Clone, Copy)]
 enum Under {
-    /// Little-endian, variable integers.
     LV,
-    /// Little-endian, fixed integers.
     LF,
-    /// Big-endian, variable integers.
     BV,
-    /// Big-endian, fixed integers.
     BF,
 }
 
 /// A row of a table: a value, the policy, the room, and then the answer and the bytes.
-type Entry<T> = (T, Under, usize, Result<(), EncodeError>, &'static [u8]);
+type Entry<T> = (T, Under, usize, Answer, &'static [u8]);
 
 /// Encodes a value under a policy into the first `room` bytes of a buffer: it has to give the answer, and to leave the bytes at the front and the rest as it was.
 fn row<T: Element, C: Policy>(
     value: &T,
     config: C,
     room: usize,
-    answer: Result<(), EncodeError>,
+    answer: Answer,
     bytes: &[u8],
 ) -> Result<(), Fail> {
     check(room <= SIZE)?;
@@ -95,7 +86,7 @@ fn row_under<T: Element>(
     value: &T,
     under: Under,
     room: usize,
-    answer: Result<(), EncodeError>,
+    answer: Answer,
     bytes: &[u8],
 ) -> Result<(), Fail> {
     match under {
@@ -114,69 +105,52 @@ fn rows<T: Element>(table: &[Entry<T>]) -> Result<(), Fail> {
     Ok(())
 }
 
-/// The same for a byte string.
+/// A row of a byte string.
 fn bytes_row<C: Policy>(
     value: &[u8],
     config: C,
     room: usize,
-    answer: Result<(), EncodeError>,
+    answer: Answer,
     bytes: &[u8],
 ) -> Result<(), Fail> {
     check(room <= SIZE)?;
     let mut buffer = [FILL; SIZE];
     let (given, writer) = bytes_into(value, SliceWriter::new(&mut buffer[0..room]), config);
     let len = writer.bytes_written();
-    compare(&buffer, Stored { answer: given, len }, answer, bytes).note(format_args!(
-        "in a room of {room}"
-    ))
+    compare(&buffer, Stored { answer: given, len }, answer, bytes)
 }
 
-/// The same for a text.
+/// A row of a text.
 fn text_row<C: Policy>(
     value: &str,
     config: C,
     room: usize,
-    answer: Result<(), EncodeError>,
+    answer: Answer,
     bytes: &[u8],
 ) -> Result<(), Fail> {
     check(room <= SIZE)?;
     let mut buffer = [FILL; SIZE];
     let (given, writer) = text_into(value, SliceWriter::new(&mut buffer[0..room]), config);
     let len = writer.bytes_written();
-    compare(&buffer, Stored { answer: given, len }, answer, bytes).note(format_args!(
-        "in a room of {room}"
-    ))
+    compare(&buffer, Stored { answer: given, len }, answer, bytes)
 }
 
 /// Encodes a byte string into a writer, and gives the writer back.
-fn bytes_into<W: Writer, C: Policy>(
-    bytes: &[u8],
-    writer: W,
-    config: C,
-) -> (Result<(), EncodeError>, W) {
+fn bytes_into<W: Writer, C: Policy>(bytes: &[u8], writer: W, config: C) -> (Answer, W) {
     let mut encoder = EncoderImpl::new(writer, config);
     let answer = encode_bytes(bytes, &mut encoder);
     (answer, encoder.into_writer())
 }
 
 /// Encodes a text into a writer, and gives the writer back.
-fn text_into<W: Writer, C: Policy>(
-    text: &str,
-    writer: W,
-    config: C,
-) -> (Result<(), EncodeError>, W) {
+fn text_into<W: Writer, C: Policy>(text: &str, writer: W, config: C) -> (Answer, W) {
     let mut encoder = EncoderImpl::new(writer, config);
     let answer = encode_str(text, &mut encoder);
     (answer, encoder.into_writer())
 }
 
 /// Compares what a call did with what it had to do.
-fn compare(
-    buffer: &[u8; SIZE],
-    stored: Stored,
-    answer: Result<(), EncodeError>,
-    bytes: &[u8],
-) -> Result<(), Fail> {
+fn compare(buffer: &[u8; SIZE], stored: Stored, answer: Answer, bytes: &[u8]) -> Result<(), Fail> {
     check_eq(stored.answer, answer)?;
     check(bytes.len() <= SIZE)?;
     check_eq(&buffer[..bytes.len()], bytes)?;

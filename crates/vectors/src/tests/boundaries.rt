@@ -3,13 +3,6 @@
 //! A writing stands here byte by byte, with the places where its pieces end. It is tried in each room from none to one byte more than it takes: a room that
 //! is too small refuses the value, and holds the pieces before the first that did not fit.
 use crate::tests::*;
-use encoding::encode_into_writer;
-use format::config::IntEncoding;
-use format::config::IntEncodingPartialEq;
-use writers::page::PageWriter;
-use writers::page::methods::PageWriterWriter;
-use writers::size::SizeWriter;
-use writers::size::SizeWriterWriter;
 
 mod claims;
 mod compounds;
@@ -82,6 +75,15 @@ fn writing<T: Element>(value: &T, under: Under, bytes: &[u8], ends: &[usize]) ->
 fn writings<T: Element>(table: &[Pieces<T>]) -> Result<(), Fail> {
     for (value, under, bytes, ends) in table {
         writing(value, *under, bytes, ends)?;
+    }
+    Ok(())
+}
+
+/// Integers in the little byte order: variable, which is one byte or a tag and then the number, and fixed.
+fn little<T: Element>(table: &[(T, &'static [u8], &'static [u8])]) -> Result<(), Fail> {
+    for (value, variable, fixed) in table {
+        writing(value, LV, variable, &[1, variable.len()])?;
+        writing(value, LF, fixed, &[fixed.len()])?;
     }
     Ok(())
 }

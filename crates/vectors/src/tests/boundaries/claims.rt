@@ -7,16 +7,11 @@ fn claims<T: Element>(value: &T, bytes: u64) -> Result<(), Fail> {
 }
 
 #[test]
-fn scalars() -> Result<(), Fail> {
+fn values() -> Result<(), Fail> {
     claims(&7u64, 8)?;
     claims(&F64::from_bits(7), 8)?;
     claims(&scalar(8364)?, 3)?;
-    claims(&span(1, 5)?, 12)
-}
-
-#[test]
-fn compounds() -> Result<(), Fail> {
-    claims(&None::<u16>, 1)?;
+    claims(&span(1, 5)?, 12)?;
     claims(&Some(7u16), 3)?;
     claims(&Result::<u8, u64>::Err(7), 12)?;
     claims(&Bound::<u64>::Unbounded, 4)?;

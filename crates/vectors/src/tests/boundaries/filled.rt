@@ -2,32 +2,20 @@
 use crate::tests::boundaries::*;
 
 /// Encodes one value and then another into a writer, and gives the writer back.
-fn both_into<T: Element, U: Element, W: Writer, C: Policy>(
-    first: &T,
-    second: &U,
-    mut writer: W,
-    config: C,
-) -> (Result<(), EncodeError>, Result<(), EncodeError>, W) {
-    let one = encode_into_writer(first, &mut writer, config);
-    let other = encode_into_writer(second, &mut writer, config);
+fn two<T: Element, U: Element, W: Writer>(a: &T, b: &U, mut writer: W) -> (Answer, Answer, W) {
+    let one = encode_into_writer(a, &mut writer, LITTLE_VARIABLE);
+    let other = encode_into_writer(b, &mut writer, LITTLE_VARIABLE);
     (one, other, writer)
 }
 
 #[test]
 fn full_slice() -> Result<(), Fail> {
     let mut buffer = [FILL; 3];
-    let (one, other, writer) = both_into(
-        &251u64,
-        &7u8,
-        SliceWriter::new(&mut buffer),
-        LITTLE_VARIABLE,
-    );
-    let written = writer.bytes_written();
-    let free = writer.remaining();
+    let (one, other, writer) = two(&251u64, &7u8, SliceWriter::new(&mut buffer));
     check_eq(one, Ok(()))?;
     check_eq(other, Err(UnexpectedEnd))?;
-    check_eq(written, 3)?;
-    check_eq(free, 0)?;
+    check_eq(writer.bytes_written(), 3)?;
+    check_eq(writer.remaining(), 0)?;
     check_eq(buffer, [0xfb, 0xfb, 0x00])
 }
 
@@ -57,17 +45,14 @@ fn page_of_a_string() -> Result<(), Fail> {
 
 #[test]
 fn size_of_a_record() -> Result<(), Fail> {
-    let mut size = SizeWriter::new();
-    encode_into_writer(
-        &(70001u32, (-12i16, Some(4200u16))),
-        &mut size,
-        LITTLE_VARIABLE,
-    )?;
-    check_eq(size.bytes_written(), 10)?;
+    let record = (70001u32, (-12i16, Some(4200u16)));
+    let (one, other, size) = two(&record, &251u64, SizeWriter::new());
+    check_eq(one, Ok(()))?;
+    check_eq(other, Ok(()))?;
+    check_eq(size.bytes_written(), 13)?;
     let (answer, size) = bytes_into(&[1, 2, 3, 4, 5], size, LITTLE_VARIABLE);
     check_eq(answer, Ok(()))?;
-    check_eq(size.bytes_written(), 16)?;
     let (answer, size) = text_into("A-17 Ω", size, LITTLE_VARIABLE);
     check_eq(answer, Ok(()))?;
-    check_eq(size.bytes_written(), 24)
+    check_eq(size.bytes_written(), 27)
 }

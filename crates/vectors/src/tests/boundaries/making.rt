@@ -1,11 +1,5 @@
 //! Which characters and durations are made, and which are refused.
 use crate::tests::boundaries::*;
-use format::duration::DurationDebug;
-use format::duration::DurationPartialEq;
-use format::error::ValueError;
-use format::error::ValueErrorPartialEq;
-use format::scalar::CharDebug;
-use format::scalar::CharPartialEq;
 
 #[test]
 fn characters() -> Result<(), Fail> {

@@ -30,67 +30,19 @@ fn empty_buffer() -> Result<(), Fail> {
 }
 
 #[test]
-fn empty_strings() -> Result<(), Fail> {
-    bytes_row(&[], LITTLE_VARIABLE, 1, Ok(()), &[0x00])?;
-    bytes_row(&[], LITTLE_VARIABLE, 0, Err(UnexpectedEnd), &[])?;
-    bytes_row(
-        &[],
-        LITTLE_FIXED,
-        8,
-        Ok(()),
-        &[0x00, 0x00, 0x00, 0x00, 0x00, 0x00, 0x00, 0x00],
-    )?;
-    bytes_row(&[], LITTLE_FIXED, 7, Err(UnexpectedEnd), &[])?;
-    text_row(
-        "",
-        BIG_FIXED,
-        8,
-        Ok(()),
-        &[0x00, 0x00, 0x00, 0x00, 0x00, 0x00, 0x00, 0x00],
-    )?;
-    text_row("", BIG_FIXED, 7, Err(UnexpectedEnd), &[])
-}
-
-#[test]
 fn strings() -> Result<(), Fail> {
-    bytes_row(
-        &[0xff, 0x00],
-        LITTLE_VARIABLE,
-        3,
-        Ok(()),
-        &[0x02, 0xff, 0x00],
-    )?;
-    bytes_row(
-        &[0xff, 0x00],
-        LITTLE_VARIABLE,
-        2,
-        Err(UnexpectedEnd),
-        &[0x02],
-    )?;
-    text_row(
-        "€",
-        BIG_FIXED,
-        11,
-        Ok(()),
-        &[
-            0x00,
-            0x00,
-            0x00,
-            0x00,
-            0x00,
-            0x00,
-            0x00,
-            0x03,
-            0xe2,
-            0x82,
-            0xac,
-        ],
-    )?;
-    text_row(
-        "€",
-        BIG_FIXED,
-        10,
-        Err(UnexpectedEnd),
-        &[0x00, 0x00, 0x00, 0x00, 0x00, 0x00, 0x00, 0x03],
-    )
+    each! { bytes_row;
+        &[], LITTLE_VARIABLE, 1, Ok(()), &[0x00];
+        &[], LITTLE_VARIABLE, 0, Err(UnexpectedEnd), &[];
+        &[], LITTLE_FIXED, 8, Ok(()), &[0x00, 0x00, 0x00, 0x00, 0x00, 0x00, 0x00, 0x00];
+        &[], LITTLE_FIXED, 7, Err(UnexpectedEnd), &[];
+        &[0xff, 0x00], LITTLE_VARIABLE, 3, Ok(()), &[0x02, 0xff, 0x00];
+        &[0xff, 0x00], LITTLE_VARIABLE, 2, Err(UnexpectedEnd), &[0x02];
+    }?;
+    each! { text_row;
+        "", BIG_FIXED, 8, Ok(()), &[0x00, 0x00, 0x00, 0x00, 0x00, 0x00, 0x00, 0x00];
+        "", BIG_FIXED, 7, Err(UnexpectedEnd), &[];
+        "€", BIG_FIXED, 11, Ok(()), &[0x00, 0x00, 0x00, 0x00, 0x00, 0x00, 0x00, 0x03, 0xe2, 0x82, 0xac];
+        "€", BIG_FIXED, 10, Err(UnexpectedEnd), &[0x00, 0x00, 0x00, 0x00, 0x00, 0x00, 0x00, 0x03];
+    }
 }
