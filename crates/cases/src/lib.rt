@@ -1,3 +1,5 @@
 //! The fourteen cases of the listing.
+#![tactic(auto)]
+
 pub mod line;
 pub mod listing;

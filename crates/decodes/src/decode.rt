@@ -18,12 +18,12 @@ pub trait Decode: Element {
 
     /// Does what the reading of the type says: this is what a type supplies, and `decode` is what is called.
     fn decode_value<D: Decoder>(decoder: &mut D) -> Result<Self, DecodeError>
-        ensures { Decoded Self.Element.meaning reading C-as-Policy.meaning R-as-Reader.meaning (D.Decoder.reader decoder.old) (D.Decoder.count decoder.old) result (D.Decoder.reader decoder.new) (D.Decoder.count decoder.new) };
+        ensures { Decoded Self.Element.meaning reading D.C.Policy.meaning D.R.Reader.meaning (D.Decoder.reader decoder.old) (D.Decoder.count decoder.old) result (D.Decoder.reader decoder.new) (D.Decoder.count decoder.new) };
 
     /// Decodes a value; what is consumed is paid for by what is claimed.
     fn decode<D: Decoder>(decoder: &mut D) -> Result<Self, DecodeError>
-        ensures decoded { Decoded Self.Element.meaning reading C-as-Policy.meaning R-as-Reader.meaning (D.Decoder.reader decoder.old) (D.Decoder.count decoder.old) result (D.Decoder.reader decoder.new) (D.Decoder.count decoder.new) }
-        ensures charged { Charged C-as-Policy.meaning.limit (R-as-Reader.meaning.waiting (D.Decoder.reader decoder.old)) (D.Decoder.count decoder.old) (is_ok result) (R-as-Reader.meaning.waiting (D.Decoder.reader decoder.new)) (D.Decoder.count decoder.new) }
+        ensures decoded { Decoded Self.Element.meaning reading D.C.Policy.meaning D.R.Reader.meaning (D.Decoder.reader decoder.old) (D.Decoder.count decoder.old) result (D.Decoder.reader decoder.new) (D.Decoder.count decoder.new) }
+        ensures charged { Charged D.C.Policy.meaning.limit (D.R.Reader.meaning.waiting (D.Decoder.reader decoder.old)) (D.Decoder.count decoder.old) (is_ok result) (D.R.Reader.meaning.waiting (D.Decoder.reader decoder.new)) (D.Decoder.count decoder.new) }
     {
         Self::decode_value(decoder)
     }

@@ -1,3 +1,5 @@
 //! What can be read, and how: the element types above their writing.
+#![tactic(auto)]
+
 pub mod decode;
 pub mod impls;

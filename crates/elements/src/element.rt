@@ -11,7 +11,7 @@ pub trait Element: Sized {
 
     /// Offers the pieces of the value's writing to the encoder's writer, in order, and stops at the first that is refused.
     fn encode<E: Encoder>(&self, encoder: &mut E) -> Result<(), EncodeError>
-        ensures { Encoded meaning C-as-Policy.meaning W-as-Writer.meaning (E.Encoder.writer encoder.old) self.now result (E.Encoder.writer encoder.new) };
+        ensures { Encoded meaning E.C.Policy.meaning E.W.Writer.meaning (E.Encoder.writer encoder.old) self.now result (E.Encoder.writer encoder.new) };
 
     /// The bytes that a decoder claims for the value, or none where they pass 2^64 - 1.
     fn claim(&self) -> Option<u64>

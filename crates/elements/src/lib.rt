@@ -1,3 +1,5 @@
 //! The element types: what can be written, and how.
+#![tactic(auto)]
+
 pub mod element;
 pub mod impls;

@@ -1,4 +1,6 @@
 //! One value into a writer, and one value to the front of a buffer.
+#![tactic(auto)]
+
 ghost use Rattle.elements.specs.Elements.{Encoded};
 ghost use Rattle.encoding.specs.Calls.{EncodedInto};
 

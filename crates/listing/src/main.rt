@@ -1,4 +1,6 @@
 //! Prints the listing: for each case the policy, the type, the value, the bytes that are written and the claim.
+#![tactic(auto)]
+
 use anyhow::anyhow;
 use cases::line::Line;
 use cases::listing::fourteen_lines;

@@ -1,2 +1,4 @@
 //! What the element types are read with: integers of every width, and characters.
+#![tactic(auto)]
+
 pub mod varint;

@@ -111,7 +111,7 @@ fn number_of_eight(order: Endianness, bytes: [u8; 8]) -> u64
 
 /// Reads a number of a width in the policy's byte order.
 pub fn read_number<D: Decoder>(decoder: &mut D, width: Width) -> Result<u64, DecodeError>
-    ensures did { Did (number_reading C-as-Policy.meaning.order (size width)) C-as-Policy.meaning R-as-Reader.meaning (D.Decoder.reader decoder.old) (D.Decoder.count decoder.old) result (D.Decoder.reader decoder.new) (D.Decoder.count decoder.new) }
+    ensures did { Did (number_reading D.C.Policy.meaning.order (size width)) D.C.Policy.meaning D.R.Reader.meaning (D.Decoder.reader decoder.old) (D.Decoder.count decoder.old) result (D.Decoder.reader decoder.new) (D.Decoder.count decoder.new) }
     ensures range { Passes (unsigned_range (size width)) result }
 {
     let order = D::C::endianness();
@@ -140,7 +140,7 @@ fn read_after_tag<D: Decoder>(
     asked: IntegerType,
     tag: u8,
 ) -> Result<u64, DecodeError>
-    ensures did { Did (after_tag asked C-as-Policy.meaning.order tag) C-as-Policy.meaning R-as-Reader.meaning (D.Decoder.reader decoder.old) (D.Decoder.count decoder.old) result (D.Decoder.reader decoder.new) (D.Decoder.count decoder.new) }
+    ensures did { Did (after_tag asked D.C.Policy.meaning.order tag) D.C.Policy.meaning D.R.Reader.meaning (D.Decoder.reader decoder.old) (D.Decoder.count decoder.old) result (D.Decoder.reader decoder.new) (D.Decoder.count decoder.new) }
     ensures range { Passes (unsigned_range (type_width asked)) result }
 {
     match judge_tag(asked, tag) {
@@ -155,7 +155,7 @@ fn read_after_tag<D: Decoder>(
 
 /// Reads a tag, and then what it says.
 fn read_tagged<D: Decoder>(decoder: &mut D, asked: IntegerType) -> Result<u64, DecodeError>
-    ensures did { Did (tag_first asked C-as-Policy.meaning.order) C-as-Policy.meaning R-as-Reader.meaning (D.Decoder.reader decoder.old) (D.Decoder.count decoder.old) result (D.Decoder.reader decoder.new) (D.Decoder.count decoder.new) }
+    ensures did { Did (tag_first asked D.C.Policy.meaning.order) D.C.Policy.meaning D.R.Reader.meaning (D.Decoder.reader decoder.old) (D.Decoder.count decoder.old) result (D.Decoder.reader decoder.new) (D.Decoder.count decoder.new) }
     ensures range { Passes (unsigned_range (type_width asked)) result }
 {
     let mut tag = [0u8; 1];
@@ -212,7 +212,7 @@ fn parse_seen(bytes: &[u8], asked: IntegerType, order: Endianness) -> Seen
 
 /// Reads a variable integer: from what is in view where that is one byte more than the type has, and else the tag and then the number.
 pub fn read_variable<D: Decoder>(decoder: &mut D, asked: IntegerType) -> Result<u64, DecodeError>
-    ensures did { Did (variable_reading asked C-as-Policy.meaning.order) C-as-Policy.meaning R-as-Reader.meaning (D.Decoder.reader decoder.old) (D.Decoder.count decoder.old) result (D.Decoder.reader decoder.new) (D.Decoder.count decoder.new) }
+    ensures did { Did (variable_reading asked D.C.Policy.meaning.order) D.C.Policy.meaning D.R.Reader.meaning (D.Decoder.reader decoder.old) (D.Decoder.count decoder.old) result (D.Decoder.reader decoder.new) (D.Decoder.count decoder.new) }
     ensures range { Passes (unsigned_range (type_width asked)) result }
 {
     let seen = match decoder.peek_read(type_width(asked) + 1) {
@@ -233,7 +233,7 @@ pub fn read_variable<D: Decoder>(decoder: &mut D, asked: IntegerType) -> Result<
 
 /// Reads an integer under the policy's integer encoding, after its width was claimed.
 pub fn decode_integer<D: Decoder>(decoder: &mut D, asked: IntegerType) -> Result<u64, DecodeError>
-    ensures did { Did (integer_reading asked C-as-Policy.meaning.order C-as-Policy.meaning.encoding) C-as-Policy.meaning R-as-Reader.meaning (D.Decoder.reader decoder.old) (D.Decoder.count decoder.old) result (D.Decoder.reader decoder.new) (D.Decoder.count decoder.new) }
+    ensures did { Did (integer_reading asked D.C.Policy.meaning.order D.C.Policy.meaning.encoding) D.C.Policy.meaning D.R.Reader.meaning (D.Decoder.reader decoder.old) (D.Decoder.count decoder.old) result (D.Decoder.reader decoder.new) (D.Decoder.count decoder.new) }
     ensures range { Passes (unsigned_range (type_width asked)) result }
 {
     decoder.claim_bytes_read(type_width(asked) as u64)?;

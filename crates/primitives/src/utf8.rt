@@ -30,7 +30,7 @@ fn continuation(n: u32) -> u8
 
 /// Writes the UTF-8 form of a character as one piece.
 pub fn encode_utf8<E: Encoder>(encoder: &mut E, c: Char) -> Result<(), EncodeError>
-    ensures { Written W-as-Writer.meaning (E.Encoder.writer encoder.old) (utf8 c.code) result (E.Encoder.writer encoder.new) }
+    ensures { Written E.W.Writer.meaning (E.Encoder.writer encoder.old) (utf8 c.code) result (E.Encoder.writer encoder.new) }
 {
     let code = c.code();
     if code < MAX_ONE_B {

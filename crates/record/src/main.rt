@@ -1,6 +1,8 @@
 //! Writes one board's record into a buffer until it is full, and prints what each call did.
 //!
 //! Each line has the field, its type and its value, the call's answer, the bytes that the call left, and how many are free after it.
+#![tactic(auto)]
+
 use anyhow::anyhow;
 use elements::element::Element;
 use encoding::{Stored, encode_into_slice};

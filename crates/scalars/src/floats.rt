@@ -11,7 +11,7 @@ use primitives::varint::Width;
 
 // The double in the next eight bytes.
 fn read_double<D: Decoder>(decoder: &mut D) -> Result<F64, DecodeError>
-    ensures did { Did (next_double C-as-Policy.meaning.order) C-as-Policy.meaning R-as-Reader.meaning (D.Decoder.reader decoder.old) (D.Decoder.count decoder.old) result (D.Decoder.reader decoder.new) (D.Decoder.count decoder.new) }
+    ensures did { Did (next_double D.C.Policy.meaning.order) D.C.Policy.meaning D.R.Reader.meaning (D.Decoder.reader decoder.old) (D.Decoder.count decoder.old) result (D.Decoder.reader decoder.new) (D.Decoder.count decoder.new) }
     ensures range { Passes (λ d. unsigned_range 8 d.bits) result }
 {
     let bits = read_number(decoder, Width::Eight)?;
@@ -20,7 +20,7 @@ fn read_double<D: Decoder>(decoder: &mut D) -> Result<F64, DecodeError>
 
 /// Reads a double.
 pub fn decode_double<D: Decoder>(decoder: &mut D) -> Result<F64, DecodeError>
-    ensures did { Did (double_reading C-as-Policy.meaning.order) C-as-Policy.meaning R-as-Reader.meaning (D.Decoder.reader decoder.old) (D.Decoder.count decoder.old) result (D.Decoder.reader decoder.new) (D.Decoder.count decoder.new) }
+    ensures did { Did (double_reading D.C.Policy.meaning.order) D.C.Policy.meaning D.R.Reader.meaning (D.Decoder.reader decoder.old) (D.Decoder.count decoder.old) result (D.Decoder.reader decoder.new) (D.Decoder.count decoder.new) }
     ensures range { Passes (λ d. unsigned_range 8 d.bits) result }
 {
     decoder.claim_bytes_read(8)?;

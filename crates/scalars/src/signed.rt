@@ -48,7 +48,7 @@ fn from_zigzag(asked: IntegerType, n: u64) -> i64
 
 /// Reads a signed integer of the type that is asked for.
 pub fn decode_signed<D: Decoder>(decoder: &mut D, asked: IntegerType) -> Result<i64, DecodeError>
-    ensures did { Did (signed_reading asked C-as-Policy.meaning.order C-as-Policy.meaning.encoding) C-as-Policy.meaning R-as-Reader.meaning (D.Decoder.reader decoder.old) (D.Decoder.count decoder.old) result (D.Decoder.reader decoder.new) (D.Decoder.count decoder.new) }
+    ensures did { Did (signed_reading asked D.C.Policy.meaning.order D.C.Policy.meaning.encoding) D.C.Policy.meaning D.R.Reader.meaning (D.Decoder.reader decoder.old) (D.Decoder.count decoder.old) result (D.Decoder.reader decoder.new) (D.Decoder.count decoder.new) }
     ensures range { Passes (signed_range (type_width asked)) result }
 {
     let n = decode_integer(decoder, asked)?;

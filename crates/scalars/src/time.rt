@@ -10,7 +10,7 @@ use parsers::varint::decode_integer;
 
 // The duration of these seconds and of the nanoseconds that come next.
 fn decode_after<D: Decoder>(decoder: &mut D, secs: u64) -> Result<Duration, DecodeError>
-    ensures did { Did (duration_after C-as-Policy.meaning.order C-as-Policy.meaning.encoding secs) C-as-Policy.meaning R-as-Reader.meaning (D.Decoder.reader decoder.old) (D.Decoder.count decoder.old) result (D.Decoder.reader decoder.new) (D.Decoder.count decoder.new) }
+    ensures did { Did (duration_after D.C.Policy.meaning.order D.C.Policy.meaning.encoding secs) D.C.Policy.meaning D.R.Reader.meaning (D.Decoder.reader decoder.old) (D.Decoder.count decoder.old) result (D.Decoder.reader decoder.new) (D.Decoder.count decoder.new) }
     ensures range { Passes (λ d. unsigned_range 8 d.secs) result }
 {
     let nanos = decode_integer(decoder, IntegerType::U32)? as u32;
@@ -22,7 +22,7 @@ fn decode_after<D: Decoder>(decoder: &mut D, secs: u64) -> Result<Duration, Deco
 
 /// Reads a duration.
 pub fn decode_duration<D: Decoder>(decoder: &mut D) -> Result<Duration, DecodeError>
-    ensures did { Did (duration_reading C-as-Policy.meaning.order C-as-Policy.meaning.encoding) C-as-Policy.meaning R-as-Reader.meaning (D.Decoder.reader decoder.old) (D.Decoder.count decoder.old) result (D.Decoder.reader decoder.new) (D.Decoder.count decoder.new) }
+    ensures did { Did (duration_reading D.C.Policy.meaning.order D.C.Policy.meaning.encoding) D.C.Policy.meaning D.R.Reader.meaning (D.Decoder.reader decoder.old) (D.Decoder.count decoder.old) result (D.Decoder.reader decoder.new) (D.Decoder.count decoder.new) }
     ensures range { Passes (λ d. unsigned_range 8 d.secs) result }
 {
     let secs = decode_integer(decoder, IntegerType::U64)?;

@@ -1,4 +1,6 @@
 //! Which bytes stand for which value, above the element types: what is accepted stands for its value, and what stands for a value is accepted.
+#![tactic(auto)]
+
 pub mod compounds;
 pub mod scalars;
 
@@ -29,10 +31,10 @@ pub trait Standing: Decode {
 /// Decodes a value, and promises both directions: what an accepted decode consumed stands for its value; and where a beginning of the waiting bytes stands for
 /// a value and the claim is granted, that value is given and just that beginning is consumed. And a value's writing stands for it.
 pub fn decode_standing<T: Standing, D: Decoder>(decoder: &mut D) -> Result<T, DecodeError>
-    ensures decoded { Decoded T.Element.meaning T.Decode.reading C-as-Policy.meaning R-as-Reader.meaning (D.Decoder.reader decoder.old) (D.Decoder.count decoder.old) result (D.Decoder.reader decoder.new) (D.Decoder.count decoder.new) }
-    ensures charged { Charged C-as-Policy.meaning.limit (R-as-Reader.meaning.waiting (D.Decoder.reader decoder.old)) (D.Decoder.count decoder.old) (is_ok result) (R-as-Reader.meaning.waiting (D.Decoder.reader decoder.new)) (D.Decoder.count decoder.new) }
-    ensures stood { Stood (T.Standing.stands C-as-Policy.meaning.order C-as-Policy.meaning.encoding) (R-as-Reader.meaning.waiting (D.Decoder.reader decoder.old)) result (R-as-Reader.meaning.waiting (D.Decoder.reader decoder.new)) }
-    ensures found { Found (T.Standing.stands C-as-Policy.meaning.order C-as-Policy.meaning.encoding) T.Element.meaning.claim C-as-Policy.meaning.limit (D.Decoder.count decoder.old) (R-as-Reader.meaning.waiting (D.Decoder.reader decoder.old)) result (R-as-Reader.meaning.waiting (D.Decoder.reader decoder.new)) }
+    ensures decoded { Decoded T.Element.meaning T.Decode.reading D.C.Policy.meaning D.R.Reader.meaning (D.Decoder.reader decoder.old) (D.Decoder.count decoder.old) result (D.Decoder.reader decoder.new) (D.Decoder.count decoder.new) }
+    ensures charged { Charged D.C.Policy.meaning.limit (D.R.Reader.meaning.waiting (D.Decoder.reader decoder.old)) (D.Decoder.count decoder.old) (is_ok result) (D.R.Reader.meaning.waiting (D.Decoder.reader decoder.new)) (D.Decoder.count decoder.new) }
+    ensures stood { Stood (T.Standing.stands D.C.Policy.meaning.order D.C.Policy.meaning.encoding) (D.R.Reader.meaning.waiting (D.Decoder.reader decoder.old)) result (D.R.Reader.meaning.waiting (D.Decoder.reader decoder.new)) }
+    ensures found { Found (T.Standing.stands D.C.Policy.meaning.order D.C.Policy.meaning.encoding) T.Element.meaning.claim D.C.Policy.meaning.limit (D.Decoder.count decoder.old) (D.R.Reader.meaning.waiting (D.Decoder.reader decoder.old)) result (D.R.Reader.meaning.waiting (D.Decoder.reader decoder.new)) }
     ensures written { WrittenStands T.Element.meaning T.Standing.stands }
 {
     T::standing();

@@ -13,7 +13,7 @@ fn take_claimed<'de, D: BorrowDecoder<'de>>(
     decoder: &mut D,
     n: u64,
 ) -> Result<&'de [u8], DecodeError>
-    ensures { Did (bytes_reading n) C-as-Policy.meaning R-as-Reader.meaning (D.Decoder.reader decoder.old) (D.Decoder.count decoder.old) (lent result) (D.Decoder.reader decoder.new) (D.Decoder.count decoder.new) }
+    ensures { Did (bytes_reading n) D.C.Policy.meaning D.R.Reader.meaning (D.Decoder.reader decoder.old) (D.Decoder.count decoder.old) (lent result) (D.Decoder.reader decoder.new) (D.Decoder.count decoder.new) }
 {
     decoder.claim_bytes_read(n)?;
     decoder.take_bytes(n as usize)
@@ -21,7 +21,7 @@ fn take_claimed<'de, D: BorrowDecoder<'de>>(
 
 /// Decodes a byte string: its length, and then a part of the input that lives as long as the input does.
 pub fn borrow_decode<'de, D: BorrowDecoder<'de>>(decoder: &mut D) -> Result<&'de [u8], DecodeError>
-    ensures borrowed { Borrowed string_reading StringStands C-as-Policy.meaning R-as-Reader.meaning (D.Decoder.reader decoder.old) (D.Decoder.count decoder.old) (lent result) (D.Decoder.reader decoder.new) (D.Decoder.count decoder.new) }
+    ensures borrowed { Borrowed string_reading StringStands D.C.Policy.meaning D.R.Reader.meaning (D.Decoder.reader decoder.old) (D.Decoder.count decoder.old) (lent result) (D.Decoder.reader decoder.new) (D.Decoder.count decoder.new) }
     ensures written { WrittenString StringStands }
 {
     let length = decode_integer(decoder, IntegerType::U64)?;

@@ -43,7 +43,7 @@ fn judge(form: &[u8]) -> Result<Char, DecodeError>
 
 /// Reads a character after its first byte.
 fn decode_after<D: Decoder>(decoder: &mut D, first: u8) -> Result<Char, DecodeError>
-    ensures { Did (after_first first) C-as-Policy.meaning R-as-Reader.meaning (D.Decoder.reader decoder.old) (D.Decoder.count decoder.old) result (D.Decoder.reader decoder.new) (D.Decoder.count decoder.new) }
+    ensures { Did (after_first first) D.C.Policy.meaning D.R.Reader.meaning (D.Decoder.reader decoder.old) (D.Decoder.count decoder.old) result (D.Decoder.reader decoder.new) (D.Decoder.count decoder.new) }
 {
     let mut form = [first, 0, 0, 0];
     let width = form_width(first);
@@ -57,7 +57,7 @@ fn decode_after<D: Decoder>(decoder: &mut D, first: u8) -> Result<Char, DecodeEr
 
 /// Reads a character: its first byte, then, after the claim, the others in one read.
 pub fn decode_char<D: Decoder>(decoder: &mut D) -> Result<Char, DecodeError>
-    ensures { Did char_reading C-as-Policy.meaning R-as-Reader.meaning (D.Decoder.reader decoder.old) (D.Decoder.count decoder.old) result (D.Decoder.reader decoder.new) (D.Decoder.count decoder.new) }
+    ensures { Did char_reading D.C.Policy.meaning D.R.Reader.meaning (D.Decoder.reader decoder.old) (D.Decoder.count decoder.old) result (D.Decoder.reader decoder.new) (D.Decoder.count decoder.new) }
 {
     let mut first = [0u8; 1];
     decoder.read(&mut first)?;

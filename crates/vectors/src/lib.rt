@@ -7,5 +7,7 @@
 //! and text test these too. The rows are the first few of each type among the requests of one value; requests of several values are left out.
 //!
 //! Beside these answers stand the format's own rules at their boundaries, which `tests/boundaries.rt` says how to read.
+#![tactic(auto)]
+
 #[cfg(test)]
 mod tests;

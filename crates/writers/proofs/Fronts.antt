@@ -42,7 +42,7 @@ full_from n m x e = by (leb n m) refl e
     by false h e = leb-false n m h
 
 -- the writer that starts at the front, and what is free to it
-front_start : (s : Bor (List ℕ)) (a : List ℕ) → length a ≤ length s.now → Front s (slice_meaning.takes a (slice_start s)) a
+front_start : (s : MutBor (List ℕ)) (a : List ℕ) → length a ≤ length s.now → Front s (slice_meaning.takes a (slice_start s)) a
 front_start s a h = record {
   fits = h;
   same = refl;
@@ -51,10 +51,10 @@ front_start s a h = record {
 }
 
 -- all of the buffer is free at first
-pub free_start : {s : Bor (List ℕ)} {u : SliceWriter} → u ≡ slice_start s → slice_free u ≡ length s.now
+pub free_start : {s : MutBor (List ℕ)} {u : SliceWriter} → u ≡ slice_start s → slice_free u ≡ length s.now
 free_start start = ap slice_free start ∙ omega arith
 
-module _ {s : Bor (List ℕ)} {u v : SliceWriter} (start : u ≡ slice_start s) where
+module _ {s : MutBor (List ℕ)} {u v : SliceWriter} (start : u ≡ slice_start s) where
   -- bytes that fit were taken
   pub front_takes : (a : List ℕ) → length a ≤ length s.now → v ≡ slice_meaning.takes a u → Front s v a
   front_takes a h e = subst (λ (w : SliceWriter). Front s w a) (sym (e ∙ ap (slice_meaning.takes a) start)) (front_start s a h)

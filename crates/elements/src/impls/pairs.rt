@@ -13,7 +13,7 @@ pub(crate) fn encode_both<T: Element, U: Element, E: Encoder>(
     second: &U,
     encoder: &mut E,
 ) -> Result<(), EncodeError>
-    ensures { Encoded (pair T.Element.meaning U.Element.meaning) C-as-Policy.meaning W-as-Writer.meaning (E.Encoder.writer encoder.old) (first.now, second.now) result (E.Encoder.writer encoder.new) }
+    ensures { Encoded (pair T.Element.meaning U.Element.meaning) E.C.Policy.meaning E.W.Writer.meaning (E.Encoder.writer encoder.old) (first.now, second.now) result (E.Encoder.writer encoder.new) }
 {
     first.encode(encoder)?;
     second.encode(encoder)

@@ -42,7 +42,7 @@ pub trait Decoder {
 pub trait BorrowDecoder<'de>: Decoder {
     /// The next n bytes, which live as long as the input does.
     fn take_bytes(&mut self, n: usize) -> Result<&'de [u8], DecodeError>
-        ensures { Did (taking n) C-as-Policy.meaning R-as-Reader.meaning (Self.Decoder.reader self.old) (Self.Decoder.count self.old) (lent result) (Self.Decoder.reader self.new) (Self.Decoder.count self.new) };
+        ensures { Did (taking n) Self.C.Policy.meaning Self.R.Reader.meaning (Self.Decoder.reader self.old) (Self.Decoder.count self.old) (lent result) (Self.Decoder.reader self.new) (Self.Decoder.count self.new) };
 }
 
 /// What a decoder has claimed. It is changed by its own call alone.

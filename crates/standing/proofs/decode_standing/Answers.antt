@@ -4,8 +4,8 @@ use Rattle.standing.proofs.decode_standing.Goals as goal
 -- what the decode did, and what its type's relation has to do with it
 pub returns : goal.returns
 returns g c =
-    let o = g.C.Policy.meaning.order in
-    let i = g.C.Policy.meaning.encoding in
+    let o = g.D.C.Policy.meaning.order in
+    let i = g.D.C.Policy.meaning.encoding in
     let e = g.T.Element.meaning in
     let f = g.T.Decode.reading o i in
     let within = g.T.Decode.laws.within o i in
@@ -14,7 +14,7 @@ returns g c =
     record {
       decoded = c.decode.ensures.decoded;
       charged = c.decode.ensures.charged;
-      stood = did_stood g.R.Reader.laws g.C.Policy.meaning f within S (c.standing.ensures.accepts o i) c.decode.result d;
-      found = did_found g.R.Reader.laws g.C.Policy.meaning f within S e.claim (c.standing.ensures.returns o i) d;
+      stood = did_stood g.D.R.Reader.laws g.D.C.Policy.meaning f within S (c.standing.ensures.accepts o i) c.decode.result d;
+      found = did_found g.D.R.Reader.laws g.D.C.Policy.meaning f within S e.claim (c.standing.ensures.returns o i) d;
       written = c.standing.ensures.writes;
     }

@@ -9,11 +9,11 @@ returns-in-Little c =
     let l : length c.args.bytes ≡ 8 = search rules in
     let e = simp get_or-drop at (ap (number Little) (row 8 c.args.bytes l)) in
     let o = ap (λ x. number x c.args.bytes) c.in-Little.is in
-    omega (arith, c.from-le-bytes.ensures)
+    omega (arith, c.from_le_bytes.ensures)
 
 pub returns-in-Big : goal.returns-in-Big
 returns-in-Big c =
     let l : length c.args.bytes ≡ 8 = search rules in
     let e = simp get_or-drop at (ap (number Big) (row 8 c.args.bytes l)) in
     let o = ap (λ x. number x c.args.bytes) c.in-Big.is in
-    omega (arith, c.from-be-bytes.ensures)
+    omega (arith, c.from_be_bytes.ensures)

@@ -17,8 +17,8 @@ returns-in-Follows c =
     let w = c.in-Follows.width in
     record {
       value =
-          (λ i. Value (c.number-at.ensures.value i) (1 + c.size.ensures i))
+          (λ i. Value (c.number_at.ensures.value i) (1 + c.size.ensures i))
           ∙ ap (seen_by o (get_or xs 0 0) (take (length xs - 1) (drop 1 xs))) c.in-Follows.ensures
           ∙ sym (seen_cases t o xs (omega (arith, c.requires)));
-      range = number_wider (size w) (type_width t) (follows_fits t o (get_or xs 0 0) w c.in-Follows.ensures) c.number-at.result c.number-at.ensures.range;
+      range = number_wider (size w) (type_width t) (follows_fits t o (get_or xs 0 0) w c.in-Follows.ensures) c.number_at.result c.number_at.ensures.range;
     }

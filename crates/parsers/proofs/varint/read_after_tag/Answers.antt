@@ -12,12 +12,12 @@ use Rattle.readings.specs.Laws.{too_wide}
 pub returns-in-Follows : goal.returns-in-Follows
 returns-in-Follows g c =
     let t = c.args.asked in
-    let o = g.C.Policy.meaning.order in
+    let o = g.D.C.Policy.meaning.order in
     let x = c.args.tag in
     let w = c.in-Follows.width in
     record {
-      did = did_is (follows_reads t o x w c.in-Follows.ensures) c.read-number.ensures.did;
-      range = range_wider (size w) (type_width t) (follows_fits t o x w c.in-Follows.ensures) _ c.read-number.ensures.range;
+      did = did_is (follows_reads t o x w c.in-Follows.ensures) c.read_number.ensures.did;
+      range = range_wider (size w) (type_width t) (follows_fits t o x w c.in-Follows.ensures) _ c.read_number.ensures.range;
     }
 
 -- the tag is too wide
@@ -26,7 +26,7 @@ returns-in-Wide g c =
     record {
       did =
           did_is
-          (wide_reads c.args.asked g.C.Policy.meaning.order c.args.tag c.in-Wide.found c.in-Wide.ensures)
-          (did_refusing g.R.Reader.laws (too_wide c.args.asked c.in-Wide.found) (InvalidIntegerType c.args.asked c.in-Wide.found) refl);
+          (wide_reads c.args.asked g.D.C.Policy.meaning.order c.args.tag c.in-Wide.found c.in-Wide.ensures)
+          (did_refusing g.D.R.Reader.laws (too_wide c.args.asked c.in-Wide.found) (InvalidIntegerType c.args.asked c.in-Wide.found) refl);
       range = tt;
     }

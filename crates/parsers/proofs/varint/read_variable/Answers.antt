@@ -9,16 +9,16 @@ use Rattle.readings.specs.Laws.{too_wide}
 pub returns-in-None : goal.returns-in-None
 returns-in-None g c =
     record {
-      did = unseen_did g.R.Reader.laws g.C.Policy.meaning c.args.asked g.C.Policy.meaning.order (g.D.Decoder.reader c.args.decoder.now) (g.D.Decoder.count c.args.decoder.now) c.type_width.result c.type_width.ensures
-          c.in-None.ensures c.read-tagged.ensures.did;
-      range = c.read-tagged.ensures.range;
+      did = unseen_did g.D.R.Reader.laws g.D.C.Policy.meaning c.args.asked g.D.C.Policy.meaning.order (g.D.Decoder.reader c.args.decoder.now) (g.D.Decoder.count c.args.decoder.now) c.type_width.result c.type_width.ensures
+          c.in-None.ensures c.read_tagged.ensures.did;
+      range = c.read_tagged.ensures.range;
     }
 
 -- they are, and hold a number
 pub returns-in-Value : goal.returns-in-Value
 returns-in-Value g c =
     record {
-      did = value_did g.R.Reader.laws g.C.Policy.meaning c.args.asked g.C.Policy.meaning.order (g.D.Decoder.reader c.args.decoder.now) (g.D.Decoder.count c.args.decoder.now) c.type_width.result c.type_width.ensures
+      did = value_did g.D.R.Reader.laws g.D.C.Policy.meaning c.args.asked g.D.C.Policy.meaning.order (g.D.Decoder.reader c.args.decoder.now) (g.D.Decoder.count c.args.decoder.now) c.type_width.result c.type_width.ensures
           c.endianness.result c.in-Some.bytes.now c.in-Value.value c.in-Value.used c.endianness.ensures c.in-Some.ensures c.in-Value.ensures.value c.consume.ensures.holds c.consume.ensures.count;
       range = c.in-Value.ensures.range;
     }
@@ -27,7 +27,7 @@ returns-in-Value g c =
 pub returns-in-TooWide : goal.returns-in-TooWide
 returns-in-TooWide g c =
     record {
-      did = wide_did g.R.Reader.laws g.C.Policy.meaning c.args.asked g.C.Policy.meaning.order (g.D.Decoder.reader c.args.decoder.now) (g.D.Decoder.count c.args.decoder.now) c.type_width.result c.type_width.ensures
+      did = wide_did g.D.R.Reader.laws g.D.C.Policy.meaning c.args.asked g.D.C.Policy.meaning.order (g.D.Decoder.reader c.args.decoder.now) (g.D.Decoder.count c.args.decoder.now) c.type_width.result c.type_width.ensures
           c.endianness.result c.in-Some.bytes.now c.in-TooWide.found (InvalidIntegerType c.peek_name.result c.in-TooWide.found) c.endianness.ensures c.in-Some.ensures c.in-TooWide.ensures.value
           (ap (λ (x : IntegerType). too_wide x c.in-TooWide.found) c.peek_name.ensures);
       range = tt;

@@ -9,11 +9,11 @@ use Rattle.scalars.proofs.time.decode_after.Goals as goal
 pub returns-in-Ok : goal.returns-in-Ok
 returns-in-Ok g c =
     let secs = c.args.secs in
-    let nanos = c.in-ok-nanos.field-0 in
+    let nanos = c.in_ok-nanos.field-0 in
     let d = c.in-Ok.duration in
     record {
       did =
-          did_then g.R.Reader.laws (duration_of secs) (integer_lawful U32 g.C.Policy.meaning.order g.C.Policy.meaning.encoding).within (judged_within secs)
-          c.in-ok-nanos.ensures.did (did_is (made_judged secs nanos d c.in-Ok.ensures) (did_giving g.R.Reader.laws d));
+          did_then g.D.R.Reader.laws (duration_of secs) (integer_lawful U32 g.D.C.Policy.meaning.order g.D.C.Policy.meaning.encoding).within (judged_within secs)
+          c.in_ok-nanos.ensures.did (did_is (made_judged secs nanos d c.in-Ok.ensures) (did_giving g.D.R.Reader.laws d));
       range = made_range secs nanos d c.in-Ok.ensures;
     }

@@ -8,9 +8,9 @@ use Rattle.scalars.proofs.time.decode_duration.Goals as goal
 -- the seconds, and then the rest
 pub returns : goal.returns
 returns g c =
-    let o = g.C.Policy.meaning.order in
-    let i = g.C.Policy.meaning.encoding in
+    let o = g.D.C.Policy.meaning.order in
+    let i = g.D.C.Policy.meaning.encoding in
     record {
-      did = did_then g.R.Reader.laws (duration_after o i) (integer_lawful U64 o i).within (after_within o i) c.in-ok-secs.ensures.did c.decode-after.ensures.did;
-      range = c.decode-after.ensures.range;
+      did = did_then g.D.R.Reader.laws (duration_after o i) (integer_lawful U64 o i).within (after_within o i) c.in_ok-secs.ensures.did c.decode_after.ensures.did;
+      range = c.decode_after.ensures.range;
     }

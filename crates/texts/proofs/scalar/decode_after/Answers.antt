@@ -6,26 +6,26 @@ use Rattle.texts.proofs.Steps.{first_and, zeros, did_after_first, did_judged, di
 use Rattle.texts.proofs.scalar.decode_after.Goals as goal
 
 -- too few other bytes wait
-pub returns-in-err-read : goal.returns-in-err-read
-returns-in-err-read g c =
+pub returns-in_err-read : goal.returns-in_err-read
+returns-in_err-read g c =
     let a = c.args.first in
-    let w = c.form-width-width.result in
-    let most : w ≤ 4 = omega (arith, form_width_most a, c.form-width-width.ensures) in
-    let q = err_from_is_err_and c.from-residual-in-err-read.result c.from-residual-in-err-read.ensures.1 in
-    did_after_first g.R.Reader.laws a w c.form-width-width.ensures c.if-width-eq0.false c.in-ok-claim-bytes-read.ensures
-    (did_unread g.R.Reader.laws a w c.form-width-width.ensures c.if-width-eq0.false (length {A = ℕ} (take (w - 1) (0 ∷ 0 ∷ 0 ∷ []))) (zeros w most)
+    let w = c.form_width-width.result in
+    let most : w ≤ 4 = omega (arith, form_width_most a, c.form_width-width.ensures) in
+    let q = err_from_is_err_and c.from_residual-in_err-read.result c.from_residual-in_err-read.ensures.1 in
+    did_after_first g.D.R.Reader.laws a w c.form_width-width.ensures c.if-width-eq0.false c.in_ok-claim_bytes_read.ensures
+    (did_unread g.D.R.Reader.laws a w c.form_width-width.ensures c.if-width-eq0.false (length {A = ℕ} (take (w - 1) (0 ∷ 0 ∷ 0 ∷ []))) (zeros w most)
     (q.1 ∙ ap Err q.2)
-    c.in-err-read.ensures.did)
+    c.in_err-read.ensures.did)
 
 -- the claim, the other bytes, and what they are judged
 pub returns : goal.returns
 returns g c =
     let a = c.args.first in
-    let w = c.form-width-width.result in
-    let most : w ≤ 4 = omega (arith, form_width_most a, c.form-width-width.ensures) in
+    let w = c.form_width-width.result in
+    let most : w ≤ 4 = omega (arith, form_width_most a, c.form_width-width.ensures) in
     let some : 1 ≤ w = omega (arith, c.if-width-eq0.false) in
     let read : length c.read.new.bytes ≡ w - 1 = omega (arith, zeros w most, c.read.auto.bytes) in
-    did_after_first g.R.Reader.laws a w c.form-width-width.ensures c.if-width-eq0.false c.in-ok-claim-bytes-read.ensures
-    (did_judged g.R.Reader.laws a w c.form-width-width.ensures c.if-width-eq0.false (length {A = ℕ} (take (w - 1) (0 ∷ 0 ∷ 0 ∷ []))) (zeros w most)
-    c.in-ok-read.ensures.did
+    did_after_first g.D.R.Reader.laws a w c.form_width-width.ensures c.if-width-eq0.false c.in_ok-claim_bytes_read.ensures
+    (did_judged g.D.R.Reader.laws a w c.form_width-width.ensures c.if-width-eq0.false (length {A = ℕ} (take (w - 1) (0 ∷ 0 ∷ 0 ∷ []))) (zeros w most)
+    c.in_ok-read.ensures.did
     (c.judge.ensures ∙ ap judged_char (first_and w a c.read.new.bytes _ some read)))

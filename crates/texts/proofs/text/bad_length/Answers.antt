@@ -10,5 +10,5 @@ some_bad m left h n = let most : m ≡ max 1 m = omega (arith, n) in ap Some mos
 pub returns-else-start-eq0 : goal.returns-else-start-eq0
 returns-else-start-eq0 c =
     let left = length c.args.rest.now in
-    some_bad c.start-length-start.result left (λ e. c.if-from-rest.false (c.from.ensures ∙ e)) c.if-start-eq0.false
-    ∙ ap (λ m. bad_length m left) c.start-length-start.ensures
+    some_bad c.start_length-start.result left (λ e. c.if-from-rest.false (c.from.ensures ∙ e)) c.if-start-eq0.false
+    ∙ ap (λ m. bad_length m left) c.start_length-start.ensures

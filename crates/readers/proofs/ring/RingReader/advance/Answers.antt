@@ -8,5 +8,5 @@ pub returns : goal.returns
 returns c =
     let r = c.args.self.now in
     same_ring _ _ refl
-    (c.index-after.ensures ∙ ap (λ n. wrapped (length r.buffer.now) (r.start + n)) (omega arith))
+    (c.index_after.ensures ∙ ap (λ n. wrapped (length r.buffer.now) (r.start + n)) (omega arith))
     refl

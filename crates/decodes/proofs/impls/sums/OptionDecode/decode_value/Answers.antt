@@ -7,7 +7,7 @@ use Rattle.std.proofs.Common.{Ok, Err}
 pub returns-in-err-decode : goal.returns-in-err-decode
 returns-in-err-decode g c =
     let p = err_from_is_err_and c.from-residual-in-err-decode.result c.from-residual-in-err-decode.ensures.1 in
-    rw (p.1, p.2) (some_decoded g.R.Reader.laws g.C.Policy.meaning g.T.Element.meaning g.T.Decode.reading g.T.Decode.laws c.in-ok-found.ensures.decoded c.in-1.is (Err c.in-err-decode.field-0.0) c.in-err-decode.ensures.decoded)
+    rw (p.1, p.2) (some_decoded g.D.R.Reader.laws g.D.C.Policy.meaning g.T.Element.meaning g.T.Decode.reading g.T.Decode.laws c.in-ok-found.ensures.decoded c.in-1.is (Err c.in-err-decode.field-0.0) c.in-err-decode.ensures.decoded)
 
 pub returns-in-ok-decode : goal.returns-in-ok-decode
-returns-in-ok-decode g c = some_decoded g.R.Reader.laws g.C.Policy.meaning g.T.Element.meaning g.T.Decode.reading g.T.Decode.laws c.in-ok-found.ensures.decoded c.in-1.is (Ok c.in-ok-decode.field-0) c.in-ok-decode.ensures.decoded
+returns-in-ok-decode g c = some_decoded g.D.R.Reader.laws g.D.C.Policy.meaning g.T.Element.meaning g.T.Decode.reading g.T.Decode.laws c.in-ok-found.ensures.decoded c.in-1.is (Ok c.in-ok-decode.field-0) c.in-ok-decode.ensures.decoded

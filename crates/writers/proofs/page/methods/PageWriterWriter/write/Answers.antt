@@ -7,12 +7,12 @@ use Rattle.writers.specs.Equal.{same_page}
 use Rattle.writers.specs.Pages.{page_meaning}
 use Rattle.writers.specs.declared.page.Page.{Page}
 
-pub invariant-of-self : goal.invariant-of-self
-invariant-of-self c =
+pub invariant_of-self : goal.invariant_of-self
+invariant_of-self c =
     let w = c.args.self.now in
     let size = ap (λ (p : Page). length p.bytes) c.put.ensures in
     let len = ap (λ (p : Page). p.len) c.put.ensures in
-    (size ∙ length-sets w.page.bytes w.page.len c.args.bytes.now ∙ w.whole, (omega (arith, w.within), tt))
+    record { whole = size ∙ length-sets w.page.bytes w.page.len c.args.bytes.now ∙ w.whole; within = omega (arith, w.within) }
 
 pub returns : goal.returns
 returns c =
