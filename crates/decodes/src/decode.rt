@@ -14,14 +14,15 @@ use interfaces::de::decoder::Decoder;
 pub trait Decode: Element {
     ghost reading: { Order → Encoding → Reading Self };
 
-    ghost laws: { ElementLaws Self.Element.meaning reading };
-
     /// Does what the reading of the type says: this is what a type supplies, and `decode` is what is called.
     fn decode_value<D: Decoder>(decoder: &mut D) -> Result<Self, DecodeError>
         ensures { Decoded Self.Element.meaning reading D.C.Policy.meaning D.R.Reader.meaning (D.Decoder.reader decoder.old) (D.Decoder.count decoder.old) result (D.Decoder.reader decoder.new) (D.Decoder.count decoder.new) };
 
+    // A member's type names one of the trait above only below the last function that an impl writes.
+    ghost laws: { ElementLaws Self.Element.meaning reading };
+
     /// Decodes a value; what is consumed is paid for by what is claimed.
-    fn decode<D: Decoder>(decoder: &mut D) -> Result<Self, DecodeError>
+    final fn decode<D: Decoder>(decoder: &mut D) -> Result<Self, DecodeError>
         ensures decoded { Decoded Self.Element.meaning reading D.C.Policy.meaning D.R.Reader.meaning (D.Decoder.reader decoder.old) (D.Decoder.count decoder.old) result (D.Decoder.reader decoder.new) (D.Decoder.count decoder.new) }
         ensures charged { Charged D.C.Policy.meaning.limit (D.R.Reader.meaning.waiting (D.Decoder.reader decoder.old)) (D.Decoder.count decoder.old) (is_ok result) (D.R.Reader.meaning.waiting (D.Decoder.reader decoder.new)) (D.Decoder.count decoder.new) }
     {

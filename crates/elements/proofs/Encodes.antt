@@ -1,5 +1,5 @@
 -- Encoding one value and then another.
-use Rattle.std.proofs.Common.{◌≡◌, ℕ, true, ◌&&◌, List, Ok, Err, Result, refl, ap₂, arith}
+use Rattle.std.proofs.Common.{◌≡◌, ℕ, ◌&&◌, Ok, Err, Result, refl, ap₂, arith}
 use Rattle.elements.specs.Compounds.{pair}
 use Rattle.elements.specs.Elements.{ElementMeaning, Encoded}
 use Rattle.format.specs.declared.error.EncodeError.{EncodeError}

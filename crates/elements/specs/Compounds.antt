@@ -1,5 +1,5 @@
 -- What the compound types mean, from the meanings of their parts: a tag and then a part, or two parts in a row.
-use Rattle.std.specs.Prelude.{ℕ, ◌+◌, Bool, true, ◌&&◌, List, [], ◌∷◌, ◌++◌, Some, None, Ok, Err, Option, Result}
+use Rattle.std.specs.Prelude.{ℕ, ◌+◌, Bool, true, ◌&&◌, List, ◌++◌, Some, None, Ok, Err, Option, Result}
 use Rattle.elements.specs.Elements.{ElementMeaning}
 use Rattle.elements.specs.Scalars.{byte, unsigned}
 use Rattle.format.specs.declared.config.Endianness.{Endianness}

@@ -1,5 +1,5 @@
 -- What each scalar type means: which terms are its values, how a value is written, and what it claims.
-use Rattle.std.specs.Prelude.{ℕ, ◌^◌, Bool, true, cond, ltb, List, [], ◌∷◌, ◌++◌, ℤ}
+use Rattle.std.specs.Prelude.{ℕ, Bool, true, cond, [], ◌∷◌, ◌++◌, ℤ}
 use Rattle.format.specs.Integers.{unsigned_range, signed_range, unsigned_writing, signed_writing}
 use Rattle.format.specs.Numbers.{bytes}
 use Rattle.format.specs.Utf8.{utf8, width}

@@ -1,5 +1,5 @@
 -- A number and its bytes.
-use Rattle.std.proofs.Common.{◌≡◌, ℕ, zero, suc, ◌+◌, ◌*◌, ◌/◌, ◌%◌, ◌^◌, ◌<◌, List, [], ◌∷◌, ◌++◌, reverse, length, sym, refl, ap, ◌∙◌, pow-suc, arith}
+use Rattle.std.proofs.Common.{◌≡◌, ℕ, zero, suc, ◌/◌, ◌^◌, ◌<◌, length, refl, ap, ◌∙◌, pow-suc, arith}
 use Rattle.format.specs.Numbers.{lowest, bytes, from_lowest, number}
 use Rattle.format.specs.declared.config.Endianness.{Endianness}
 use Rattle.format.specs.declared.config.Endianness.TheVariants.{Little, Big}

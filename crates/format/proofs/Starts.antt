@@ -1,10 +1,10 @@
 -- The starts of characters.
-use Rattle.std.proofs.Common.{◌≡◌, ℕ, zero, suc, ◌+◌, ◌<◌, ◌≤◌, Bool, true, false, cond, ◌&&◌, eqb, ltb, leb, ◌⊎◌, List, [], ◌∷◌, length, take, sym, refl, ap, ◌∙◌, subst, inl, inr, ⊎_elim, arith, length-take}
+use Rattle.std.proofs.Common.{◌≡◌, ℕ, zero, suc, ◌<◌, ◌≤◌, true, cond, ◌&&◌, eqb, ltb, ◌⊎◌, List, [], ◌∷◌, length, take, sym, refl, ap, ◌∙◌, ⊎_elim, arith, length-take}
 use Rattle.format.proofs.WellFormed.{stands, forms, form_width_most}
 use Rattle.format.specs.Texts.{Start, Longest, is_start, longest_start, start_length}
 use Rattle.format.specs.Utf8.{utf8}
 use Rattle.format.specs.WellFormed.{tail, second, form_width, well_formed, code_of}
-use Rattle.std.proofs.lemmas.Bool.{true≢false, both_ways, ltb-true, lt-ltb, le-ltb, eqb-true, eq-eqb, and_parts, and_from, and_left, and_right, and_cases, cond-true, cond-false, cond_both, cases_eq}
+use Rattle.std.proofs.lemmas.Bool.{true≢false, both_ways, ltb-true, lt-ltb, eqb-true, eq-eqb, and_parts, and_from, cond_both, cases_eq}
 use Rattle.std.proofs.lemmas.Bool.Decides.{nat_tests}
 
 -- a beginning of a form, but not the whole, is a start

@@ -1,10 +1,10 @@
 -- What is judged of bytes as text holds in the subject's words.
-use Rattle.std.proofs.Common.{◌≡◌, ℕ, zero, suc, ◌+◌, ◌-◌, ◌<◌, ◌≤◌, Bool, true, false, cond, ◌&&◌, ◌||◌, eqb, ltb, leb, ◌⊎◌, List, [], ◌∷◌, ◌++◌, length, get_or, take, drop, IsUtf8, sym, refl, ap, ◌∙◌, subst, inl, inr, ⊎_elim, append_assoc, append-nil, add-zero, arith, length-append, length-drop, take-append-drop, length-take, get_or-take, take-add}
+use Rattle.std.proofs.Common.{◌≡◌, ℕ, zero, suc, ◌+◌, ◌<◌, ◌≤◌, Bool, true, false, cond, ◌&&◌, ◌||◌, eqb, ltb, leb, List, [], ◌∷◌, ◌++◌, length, get_or, take, drop, IsUtf8, sym, refl, ap, ◌∙◌, subst, append_assoc, add-zero, arith, length-append, length-drop, take-append-drop, length-take, get_or-take, take-add}
 use lib.Seq.{take-length}
 use lib.Utf8 as kit
 use Rattle.format.proofs.Starts.{longest_start_is}
 use Rattle.format.proofs.WellFormed.{stands, forms}
-use Rattle.format.specs.Refusals.{Answer, given, refused, Refusal, refusal}
+use Rattle.format.specs.Refusals.{Answer, given, refused, Refusal}
 use Rattle.format.specs.Scalars.{scalar}
 use Rattle.format.specs.Texts.{Text, none, more, Longest, TextFault, TextJudged, begins_form, chars_length, text_length, start_length, text_fault, text_verdict}
 use Rattle.format.specs.Utf8.{utf8}

@@ -1,5 +1,5 @@
 -- Which bytes are a character's UTF-8 form, by the table of RFC 3629, section 4, and the number that they stand for.
-use Rattle.std.specs.Prelude.{ℕ, ◌+◌, ◌-◌, ◌*◌, Bool, true, false, cond, ◌&&◌, List, [], ◌∷◌, ◌==◌, nat_le}
+use Rattle.std.specs.Prelude.{ℕ, ◌+◌, ◌-◌, ◌*◌, Bool, false, cond, ◌&&◌, List, [], ◌∷◌, ◌==◌, nat_le}
 
 -- b is from lo to hi
 abbrev pub among : ℕ → ℕ → ℕ → Bool

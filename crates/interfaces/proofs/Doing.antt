@@ -1,5 +1,5 @@
 -- Calls that read, one after another, do what `then` says.
-use Rattle.std.proofs.Common.{◌≡◌, ℕ, ◌+◌, ◌-◌, ◌*◌, ◌≤◌, min, true, false, cond, List, length, drop, is_ok, Some, None, Ok, Err, Option, Result, sym, refl, ap, ◌∙◌, subst, arith, length-drop}
+use Rattle.std.proofs.Common.{◌≡◌, ℕ, ◌+◌, ◌*◌, ◌≤◌, min, true, false, cond, List, length, is_ok, Some, None, Ok, Err, Option, Result, sym, refl, ap, ◌∙◌, subst, arith, length-drop}
 use mathlib.Core.Path.{fun_ext}
 use Rattle.format.specs.Refusals.{Answer, given, refused, Refusal, answer, decode_refusal}
 use Rattle.format.specs.declared.error.DecodeError.{DecodeError}

@@ -1,7 +1,7 @@
 -- Offering pieces: one `write`, one list after another, and a stop.
-use Rattle.std.proofs.Common.{◌≡◌, ℕ, ◌+◌, ◌-◌, ◌<◌, ◌≤◌, Bool, true, false, cond, leb, List, [], ◌∷◌, ◌++◌, length, Ok, Err, Result, sym, refl, ap, ◌∙◌, subst, append-nil, arith, length-append, le-leb, leb-false, leb-true}
+use Rattle.std.proofs.Common.{◌≡◌, ℕ, ◌+◌, ◌-◌, ◌<◌, ◌≤◌, Bool, true, false, leb, List, [], ◌∷◌, ◌++◌, length, Ok, Err, Result, sym, refl, ap, ◌∙◌, append-nil, arith, length-append, le-leb, leb-false, leb-true}
 use borrow.Author.Tests.{lt-leb}
-use Rattle.format.specs.Refusals.{Answer, given, refused, refusal, answer, encode_refusal}
+use Rattle.format.specs.Refusals.{given, refused, encode_refusal}
 use Rattle.format.specs.declared.error.EncodeError.{EncodeError}
 use Rattle.interfaces.proofs.Leading.{leading_next, leading_stop, leading_go, leading_halt, leading_all, leading_fits}
 use Rattle.format.proofs.Pieces.{joined_append}

@@ -1,6 +1,6 @@
 -- A call that did what a reading says gives the values that the bytes stand for.
-use Rattle.std.proofs.Common.{◌≡◌, ℕ, List, ◌++◌, length, take, drop, Ok, Err, Result, sym, refl, ap, ◌∙◌, subst, arith}
-use Rattle.format.specs.Refusals.{Answer, given, refused, answer, decode_refusal}
+use Rattle.std.proofs.Common.{◌≡◌, ℕ, List, ◌++◌, take, drop, Ok, Err, Result, sym, ap, ◌∙◌, arith}
+use Rattle.format.specs.Refusals.{given, answer, decode_refusal}
 use Rattle.format.specs.declared.error.DecodeError.{DecodeError}
 use Rattle.interfaces.specs.Decodes.{source, Did}
 use Rattle.interfaces.specs.Policies.{PolicyMeaning}

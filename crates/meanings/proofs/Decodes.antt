@@ -1,5 +1,5 @@
 -- The laws of an element from those of its reading and back, and what a call of `decode` owes by them.
-use Rattle.std.proofs.Common.{◌≡◌, ℕ, ◌+◌, ◌*◌, ◌≤◌, Bool, true, false, cond, is_ok, Some, None, Result, arith}
+use Rattle.std.proofs.Common.{◌≡◌, ℕ, ◌+◌, ◌*◌, ◌≤◌, Bool, true, false, cond, is_ok, Result, arith}
 use Rattle.format.specs.Pieces.{joined}
 use Rattle.format.specs.declared.config.Endianness.{Endianness}
 use Rattle.format.specs.declared.config.IntEncoding.{IntEncoding}
@@ -11,7 +11,7 @@ use Rattle.elements.specs.Elements.{ElementMeaning}
 use Rattle.meanings.specs.Decodes.{ElementLaws, Decoded}
 use Rattle.readings.specs.Claims.{capped}
 use Rattle.readings.specs.Laws.{Returns, Lawful, accepted, Charged}
-use Rattle.readings.specs.Readings.{Source, Reading}
+use Rattle.readings.specs.Readings.{Reading}
 
 module _ {A : Type 0} (e : ElementMeaning A) (f : Endianness → IntEncoding → Reading A) where
   pub laws_from : ((o : Endianness) (i : IntEncoding) (v : A) → e.valid v ≡ true → Returns (f o i) (joined (e.writing o i v)) (e.claim v) v) → ((o : Endianness) (i : IntEncoding) → Lawful 2 0 0 (f o i)) → ElementLaws e f

@@ -1,5 +1,5 @@
 -- That the types of this library keep the laws of an element: the scalars, and the compound types if their parts do.
-use Rattle.std.proofs.Common.{◌≡◌, ℕ, ◌+◌, ◌^◌, ◌<◌, Bool, true, ◌&&◌, List, [], ◌∷◌, ◌++◌, Some, None, Ok, Err, Option, Result, sym, refl, subst, append-nil, arith, ltb-true}
+use Rattle.std.proofs.Common.{◌≡◌, ℕ, ◌+◌, ◌^◌, ◌<◌, true, [], ◌∷◌, Some, None, Ok, Err, Option, Result, sym, subst, append-nil, arith, ltb-true}
 use Rattle.format.proofs.Pieces.{joined_append}
 use Rattle.format.specs.Integers.{unsigned_writing}
 use Rattle.format.specs.Pieces.{joined}

@@ -1,5 +1,5 @@
 -- Calls of `decode` that decode a compound type: a tag or a first part that was given, and then a part.
-use Rattle.std.proofs.Common.{◌≡◌, ℕ, Bool, true, ◌&&◌, Some, Ok, Err, Option, Result, sym, refl, ap, ◌∙◌}
+use Rattle.std.proofs.Common.{◌≡◌, ℕ, Bool, true, Some, Ok, Err, Result, sym, refl, ap, ◌∙◌}
 use Rattle.format.specs.declared.error.DecodeError.{DecodeError}
 use Rattle.format.specs.declared.error.IntegerType.TheVariants.{U32}
 use Rattle.interfaces.proofs.Doing.{did_then, did_stop, did_is, did_giving}

@@ -1,5 +1,5 @@
 -- The laws that reading an element type owes, and what its calls answer and leave.
-use Rattle.std.specs.Prelude.{◌≡◌, ℕ, ◌+◌, ◌*◌, ◌≤◌, Bool, true, cond, length, Some, Option, Result}
+use Rattle.std.specs.Prelude.{◌≡◌, ℕ, ◌+◌, ◌*◌, ◌≤◌, true, cond, length, Some, Result}
 use Rattle.elements.specs.Elements.{ElementMeaning}
 use Rattle.format.specs.Pieces.{joined}
 use Rattle.format.specs.declared.config.Endianness.{Endianness}

@@ -1,6 +1,6 @@
 -- A call that reads a variable integer by a peek, and one that cannot.
-use Rattle.std.proofs.Common.{◌≡◌, ℕ, ◌+◌, ◌<◌, ◌≤◌, min, Bool, true, false, cond, leb, List, length, take, Some, None, Ok, Err, Option, Result, sym, refl, ap, ◌∙◌, subst, arith, leb-false, leb-true}
-use Rattle.format.specs.Refusals.{given, refused, decode_refusal}
+use Rattle.std.proofs.Common.{◌≡◌, ℕ, ◌+◌, ◌≤◌, min, Bool, true, false, cond, leb, List, take, Some, None, Ok, Err, Option, Result, sym, refl, ap, ◌∙◌, arith, leb-false, leb-true}
+use Rattle.format.specs.Refusals.{refused, decode_refusal}
 use Rattle.format.specs.declared.config.Endianness.{Endianness}
 use Rattle.format.specs.declared.error.DecodeError.{DecodeError}
 use Rattle.format.specs.declared.error.IntegerType.{IntegerType}
@@ -14,7 +14,7 @@ use Rattle.parsers.specs.declared.varint.Seen.TheVariants.{Value, TooWide}
 use Rattle.readings.proofs.Integers.{out_of_view}
 use Rattle.readings.specs.Integers.{type_width, peek_name, tag_first, variable_reading}
 use Rattle.readings.specs.Laws.{too_wide}
-use Rattle.readings.specs.Readings.{Outcome, outcome}
+use Rattle.readings.specs.Readings.{Outcome}
 
 none_from : (b : Bool) (xs : List ℕ) → ◌≡◌ {A = Option (List ℕ)} None (cond b (Some xs) None) → b ≡ false
 none_from true xs e = let z : ◌≡◌ {A = ℕ} 0 1 = cc in absurd (omega arith)

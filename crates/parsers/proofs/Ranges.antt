@@ -1,5 +1,5 @@
 -- A number that fits some bytes fits more of them.
-use Rattle.std.proofs.Common.{◌≡◌, ℕ, ◌^◌, ◌<◌, ◌≤◌, true, Ok, Err, Result, arith, ltb-true, lt-ltb}
+use Rattle.std.proofs.Common.{◌≡◌, ℕ, ◌^◌, ◌≤◌, true, Ok, Err, Result, arith, ltb-true, lt-ltb}
 use native.Mathlib.Nat.{pow-le-pow_right}
 use Rattle.format.specs.Integers.{unsigned_range}
 use Rattle.format.specs.declared.error.DecodeError.{DecodeError}

@@ -1,5 +1,5 @@
 -- A list of a known length, element by element.
-use Rattle.std.proofs.Common.{◌≡◌, ℕ, zero, suc, List, [], ◌∷◌, length, get_or, drop, refl, ap, arith, get_or-drop}
+use Rattle.std.proofs.Common.{◌≡◌, ℕ, zero, suc, List, [], ◌∷◌, length, get_or, drop, refl, ap, arith}
 
 -- the first n elements, picked one by one from place k on
 abbrev pub picked : ℕ → List ℕ → List ℕ

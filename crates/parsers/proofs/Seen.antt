@@ -1,19 +1,18 @@
 -- What the bytes in view hold is what a variable integer's reading says.
-use Rattle.std.proofs.Common.{◌≡◌, ℕ, ◌+◌, ◌-◌, ◌<◌, ◌≤◌, Bool, true, false, leb, List, [], ◌∷◌, length, get_or, take, drop, sym, refl, ap, ◌∙◌, add-one, arith, length-drop, take_all, take-take, le-leb}
+use Rattle.std.proofs.Common.{◌≡◌, ℕ, ◌+◌, ◌-◌, ◌<◌, ◌≤◌, leb, List, [], ◌∷◌, length, get_or, take, drop, sym, refl, ap, ◌∙◌, add-one, arith, length-drop, take_all, take-take, le-leb}
 use Rattle.format.specs.Numbers.{number}
 use Rattle.format.specs.Refusals.{given, refused}
 use Rattle.format.specs.declared.config.Endianness.{Endianness}
 use Rattle.format.specs.declared.error.IntegerType.{IntegerType}
 use Rattle.parsers.proofs.Tags.{follows_reads, number_reads, wide_kind, narrow_number, narrow_follows, follows_fits}
 use Rattle.parsers.specs.Tags.{tag_kind, seen_by, seen_in}
-use Rattle.parsers.specs.declared.varint.Seen.{Seen}
 use Rattle.parsers.specs.declared.varint.Seen.TheVariants.{Value, TooWide}
 use Rattle.parsers.specs.declared.varint.Tag.{Tag}
 use Rattle.parsers.specs.declared.varint.Tag.TheVariants.{Number, Follows, Wide}
 use Rattle.primitives.specs.Widths.{size}
 use Rattle.primitives.specs.declared.varint.Width.{Width}
 use Rattle.readings.proofs.Integers.{tag_first_on, in_view_wide, in_view_narrow}
-use Rattle.readings.specs.Integers.{type_width, peek_name, number_reading, after_tag, variable_reading}
+use Rattle.readings.specs.Integers.{type_width, peek_name, number_reading, variable_reading}
 use Rattle.readings.specs.Laws.{too_wide}
 use Rattle.readings.specs.Readings.{Source, Outcome, outcome, Reading, giving, in_view, moved, resumed}
 use Rattle.std.proofs.lemmas.Bool.{cond-true}

@@ -1,5 +1,5 @@
 -- What a tag says is what the reading after it is.
-use Rattle.std.proofs.Common.{◌≡◌, ℕ, ◌<◌, ◌≤◌, Bool, true, false, cond, eqb, ltb, sym, refl, ap, ◌∙◌, arith, ltb-false}
+use Rattle.std.proofs.Common.{◌≡◌, ℕ, ◌≤◌, Bool, true, false, cond, eqb, ltb, sym, refl, ap, ◌∙◌, arith, ltb-false}
 use Rattle.format.specs.declared.config.Endianness.{Endianness}
 use Rattle.format.specs.declared.error.IntegerType.{IntegerType}
 use Rattle.format.specs.declared.error.IntegerType.TheVariants.{U16, U32, U64, U128, Usize, I16, I32, I64, I128, Reserved}
@@ -12,7 +12,7 @@ use Rattle.primitives.specs.declared.varint.Width.TheVariants.{Two, Four, Eight}
 use Rattle.readings.specs.Integers.{type_width, following, is_wide, found, number_reading, after_tag}
 use Rattle.readings.specs.Laws.{too_wide}
 use Rattle.readings.specs.Readings.{Reading, giving, refusing}
-use Rattle.std.proofs.lemmas.Bool.{cond-true, cond-false}
+use Rattle.std.proofs.lemmas.Bool.{cond-false}
 
 width_most : (t : IntegerType) → type_width t ≤ 8
 width_most U16 = omega arith

@@ -1,8 +1,8 @@
 -- What each word uses, and what it pays for.
-use Rattle.std.proofs.Common.{◌≡◌, ℕ, ◌+◌, ◌-◌, ◌*◌, ◌≤◌, min, Bool, true, false, cond, leb, List, [], ◌∷◌, length, take, drop, Some, None, Option, refl, ap, arith, length-drop, leb-true}
-use Rattle.format.specs.Refusals.{Answer, given, refused, refusal, Refusal}
+use Rattle.std.proofs.Common.{◌≡◌, ℕ, ◌+◌, ◌-◌, ◌*◌, ◌≤◌, Bool, true, false, cond, leb, [], ◌∷◌, length, take, Some, refl, arith, length-drop, leb-true}
+use Rattle.format.specs.Refusals.{Answer, given, refused, refusal}
 use Rattle.readings.proofs.Claims.{claim_pays}
-use Rattle.readings.specs.Claims.{judged, after, capped}
+use Rattle.readings.specs.Claims.{judged, capped}
 use Rattle.readings.specs.Laws.{accepted}
 use Rattle.readings.specs.Readings.{Source, Outcome, outcome, Reading, giving, granting, claiming, taking, moved, resumed, ◌then◌}
 use Rattle.std.proofs.lemmas.Bool.{cond_both}

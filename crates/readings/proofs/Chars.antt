@@ -1,12 +1,12 @@
 -- The laws of a character's reading.
-use Rattle.std.proofs.Common.{◌≡◌, ℕ, ◌+◌, ◌-◌, ◌*◌, ◌<◌, ◌≤◌, Bool, true, false, cond, T, eqb, List, [], ◌∷◌, ◌++◌, length, get_or, take, drop, sym, refl, ap, ◌∙◌, subst, append-nil, one-add, arith}
+use Rattle.std.proofs.Common.{◌≡◌, ℕ, ◌+◌, ◌-◌, ◌*◌, ◌≤◌, Bool, true, false, T, eqb, List, [], ◌∷◌, ◌++◌, length, get_or, take, drop, sym, refl, ap, ◌∙◌, subst, append-nil, one-add, arith}
 use mathlib.Core.HLevel.{is_prop→PathP}
 use lib.Dec.{T_prop}
 use Rattle.format.proofs.WellFormed.{stands, forms, true_from, test_from}
 use Rattle.format.specs.Refusals.{Answer, Refusal, given, refused}
 use Rattle.format.specs.Scalars.{scalar}
 use Rattle.format.specs.Utf8.{utf8, width}
-use Rattle.format.specs.WellFormed.{form_width, well_formed, code_of}
+use Rattle.format.specs.WellFormed.{form_width, well_formed}
 use Rattle.format.specs.declared.scalar.Char.{Char}
 use Rattle.readings.proofs.Charges.{Within, taking_within, then_within}
 use Rattle.readings.proofs.Given.{then_gave, taking_gave}

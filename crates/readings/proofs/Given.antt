@@ -1,8 +1,7 @@
 -- What is known of a reading that gave a value.
 use Rattle.std.proofs.Common.{◌≡◌, ℕ, ◌+◌, ◌-◌, ◌≤◌, Bool, true, false, cond, leb, List, [], ◌∷◌, length, take, refl, arith, leb-true}
 use Rattle.format.specs.Refusals.{Answer, given, refused, refusal}
-use Rattle.readings.specs.Claims.{judged}
-use Rattle.readings.specs.Readings.{Source, Outcome, outcome, Reading, granting, claiming, taking, moved, resumed, ◌then◌}
+use Rattle.readings.specs.Readings.{Source, Outcome, outcome, Reading, taking, moved, resumed, ◌then◌}
 
 -- the first gave a value, and the second gave the whole's from what was left
 pub record ThenGave {A B : Type 0} (f : Reading A) (g : A → Reading B) (s : Source) (w : B) : Type 0 where

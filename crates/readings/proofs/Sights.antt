@@ -1,8 +1,8 @@
 -- That the view matters to the two marks alone, for each word.
-use Rattle.std.proofs.Common.{◌≡◌, ℕ, ◌+◌, ◌<◌, ◌≤◌, min, Bool, true, false, cond, leb, ◌⊎◌, List, length, get_or, drop, Option, sym, refl, ap, ◌∙◌, subst, inl, inr, add_assoc, arith, drop-drop, leb-false, leb-true}
-use Rattle.format.specs.Refusals.{Answer, given, refused, Refusal}
-use Rattle.readings.specs.Laws.{Same, Marks, Marked, Alike, too_wide}
-use Rattle.readings.specs.Readings.{Source, Outcome, outcome, Reading, claiming, taking, looking, in_view, peeking, moved, resumed, ◌then◌}
+use Rattle.std.proofs.Common.{◌≡◌, ℕ, ◌+◌, ◌<◌, ◌≤◌, min, Bool, true, false, cond, leb, ◌⊎◌, List, length, get_or, drop, Option, sym, refl, ap, ◌∙◌, subst, inl, inr, add_assoc, drop-drop, leb-false, leb-true}
+use Rattle.format.specs.Refusals.{Answer, given, refused}
+use Rattle.readings.specs.Laws.{Same, Marked, Alike}
+use Rattle.readings.specs.Readings.{Source, Outcome, outcome, Reading, looking, in_view, peeking, moved, resumed, ◌then◌}
 
 abbrev pub Sees : {A : Type 0} → Reading A → Type 0
 Sees f = (s t : Source) → Same s t → Alike s t (f s) (f t)

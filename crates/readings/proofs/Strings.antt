@@ -6,19 +6,18 @@ use Rattle.format.specs.Integers.{unsigned_writing}
 use Rattle.format.specs.Pieces.{joined}
 use Rattle.format.specs.Refusals.{Answer, given, refused}
 use Rattle.format.specs.Standing.{UnsignedStands, StringStands, TextStands}
-use Rattle.format.specs.Texts.{Text, text_length, text_fault, text_verdict}
+use Rattle.format.specs.Texts.{Text, text_length, text_fault}
 use Rattle.format.specs.declared.config.Endianness.{Endianness}
 use Rattle.format.specs.declared.config.IntEncoding.{IntEncoding}
 use Rattle.format.specs.declared.error.IntegerType.TheVariants.{U64}
 use Rattle.readings.proofs.Accepts.{then_accepts, taking_accepts, implied_accepts, claimed_accepts}
-use Rattle.readings.proofs.Charges.{Within}
 use Rattle.readings.proofs.Integers.{integer_lawful, unsigned_returns, unsigned_accepts}
 use Rattle.readings.proofs.Standing.{unsigned_writes}
 use Rattle.readings.proofs.Words.{giving_returns, taking_returns, then_returns, claimed_returns, ended_returns, weaker, giving_lawful, refusing_lawful, claiming_lawful, taking_lawful, then_lawful}
 use Rattle.readings.specs.Accepts.{Accepts}
 use Rattle.readings.specs.Integers.{integer_reading}
 use Rattle.readings.specs.Laws.{Returns, Lawful}
-use Rattle.readings.specs.Readings.{Source, outcome, Reading, giving, refusing, claiming, taking, ◌then◌}
+use Rattle.readings.specs.Readings.{Source, outcome, claiming, taking}
 use Rattle.readings.specs.Strings.{bytes_reading, string_reading, text_judging, text_reading}
 
 -- ---- what every reading keeps

@@ -1,10 +1,10 @@
 -- The laws of each word, and how `then` keeps them.
-use Rattle.std.proofs.Common.{◌≡◌, ℕ, ◌+◌, ◌-◌, ◌*◌, ◌≤◌, min, Bool, true, false, cond, leb, List, [], ◌∷◌, ◌++◌, length, take, drop, Some, Option, sym, refl, ap, ◌∙◌, subst, append_assoc, append-nil, add-zero, arith, length-append, le-leb}
-use Rattle.format.specs.Refusals.{Answer, given, refused, refusal, Refusal}
-use Rattle.readings.proofs.Charges.{Within, Paid, Pays, paid_weaker, paid_lent, claiming_pays, taking_within, taking_pays, then_within, then_pays}
+use Rattle.std.proofs.Common.{◌≡◌, ℕ, ◌+◌, ◌-◌, ◌*◌, ◌≤◌, Bool, true, false, cond, leb, List, [], ◌∷◌, ◌++◌, length, take, drop, Some, sym, refl, ap, ◌∙◌, subst, append_assoc, append-nil, add-zero, arith, length-append, le-leb}
+use Rattle.format.specs.Refusals.{given, refused, refusal, Refusal}
+use Rattle.readings.proofs.Charges.{Paid, paid_weaker, paid_lent, claiming_pays, taking_within, taking_pays, then_within, then_pays}
 use Rattle.readings.proofs.Claims.{after_none, granted_first, granted_second, after_both}
-use Rattle.readings.proofs.Sights.{Sees, Agree, blind_sees, then_sees, looking_sees, peeking_sees}
-use Rattle.readings.specs.Claims.{judged, after, Granted}
+use Rattle.readings.proofs.Sights.{Agree, blind_sees, then_sees, looking_sees, peeking_sees}
+use Rattle.readings.specs.Claims.{judged, after}
 use Rattle.readings.specs.Laws.{Returns, Lawful}
 use Rattle.readings.specs.Readings.{Source, Outcome, outcome, Reading, giving, refusing, granting, claiming, taking, looking, in_view, peeking, moved, resumed, ◌then◌}
 use Rattle.std.proofs.lemmas.List.{drop_at, take_at}

@@ -4,7 +4,7 @@ use Rattle.format.proofs.WellFormed.{well_formed_scalar}
 use Rattle.format.specs.Refusals.{Answer, given, refused, Refusal, refusal}
 use Rattle.format.specs.WellFormed.{form_width, well_formed, code_of}
 use Rattle.format.specs.declared.scalar.Char.{Char}
-use Rattle.readings.specs.Readings.{Source, outcome, Reading, refusing, claiming, taking, ◌then◌}
+use Rattle.readings.specs.Readings.{outcome, Reading, refusing, claiming, taking, ◌then◌}
 
 -- goes one way where a test holds, which that way may use, and another where it does not
 abbrev pub if_true : {X : Type 0} → (b : Bool) → (T b → X) → X → X

@@ -1,5 +1,5 @@
 -- How integers are read, by bincode's specification; the Rust settles what a refused tag names and leaves.
-use Rattle.std.specs.Prelude.{ℕ, ◌+◌, Bool, true, false, cond, List, ◌==◌, nat_lt, slice_index}
+use Rattle.std.specs.Prelude.{ℕ, ◌+◌, Bool, cond, ◌==◌, nat_lt, slice_index}
 use Rattle.format.specs.Numbers.{number}
 use Rattle.format.specs.declared.config.Endianness.{Endianness}
 use Rattle.format.specs.declared.config.IntEncoding.{IntEncoding}

@@ -1,5 +1,5 @@
 -- Durations that are made of what was read.
-use Rattle.std.proofs.Common.{◌≡◌, ℕ, ◌+◌, ◌/◌, ◌%◌, ◌^◌, ◌<◌, Bool, true, false, cond, ltb, [], ◌∷◌, sym, refl, ap, ◌∙◌, arith}
+use Rattle.std.proofs.Common.{◌≡◌, ℕ, ◌+◌, ◌/◌, ◌%◌, ◌^◌, Bool, true, false, cond, ltb, [], ◌∷◌, sym, refl, ap, ◌∙◌, arith}
 use Rattle.format.proofs.Durations.{same_duration}
 use Rattle.format.specs.Durations.{duration_parts, carried, made_duration}
 use Rattle.format.specs.Refusals.{Answer, given, refused, refusal}

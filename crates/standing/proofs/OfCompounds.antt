@@ -1,5 +1,5 @@
 -- The compound types' relations are theirs if their parts' are.
-use Rattle.std.proofs.Common.{◌≡◌, ℕ, List, Some, None, Ok, Err}
+use Rattle.std.proofs.Common.{ℕ, List, Some, None, Ok, Err}
 use Rattle.format.specs.Standing.{OptionStands, none, some, ResultStands, ok, err, BoundStands, unbounded, included, excluded, PairStands}
 use Rattle.format.specs.Standing as relation
 use Rattle.format.specs.declared.config.Endianness.{Endianness}

@@ -1,5 +1,5 @@
 -- The scalars' relations are theirs.
-use Rattle.std.proofs.Common.{◌≡◌, ℕ, ◌^◌, sym, refl, subst, append-nil, ltb-true}
+use Rattle.std.proofs.Common.{◌^◌, sym, subst, append-nil, ltb-true}
 use Rattle.format.specs.Standing.{UnsignedStands, SignedStands, ByteStands, TruthStands, DoubleStands, CharStands, DurationStands}
 use Rattle.format.specs.Utf8.{utf8}
 use Rattle.format.specs.declared.error.IntegerType.{IntegerType}

@@ -2,7 +2,7 @@
 #![tactic(auto)]
 
 pub mod compounds;
-pub mod scalars;
+pub mod scalar_types;
 
 ghost use Rattle.std.specs.Prelude.{ℕ, List, is_ok};
 ghost use Rattle.format.specs.declared.config.Endianness.{Endianness as Order};

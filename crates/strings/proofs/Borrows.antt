@@ -1,5 +1,5 @@
 -- What a call that hands out a byte string or a text owes, from what it did.
-use Rattle.std.proofs.Common.{◌≡◌, ℕ, ◌+◌, List, length, Ok, Err, Result, sym, refl, Bor}
+use Rattle.std.proofs.Common.{◌≡◌, ℕ, List, Ok, Err, Result, sym, refl, Bor}
 use Rattle.format.specs.Refusals.{answer, decode_refusal}
 use Rattle.format.specs.Standing.{StringStands, TextStands}
 use Rattle.format.specs.Texts.{text_verdict}

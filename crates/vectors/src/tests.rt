@@ -21,6 +21,7 @@ use interfaces::config::configuration::*;
 use interfaces::enc::encoder::*;
 use interfaces::enc::write::*;
 use std::ops::Bound;
+use std::process::Abort;
 use std::test::*;
 use strings::*;
 use writers::page::methods::*;
@@ -30,15 +31,15 @@ use writers::slice::*;
 
 /// Runs a function on a table: behind its name stand the rows, each on a line and with `;` at its end.
 macro_rules! table {
-    ($run:path; $($($cell:expr),*;)*) => {
-        $run(&[$(($($cell),*)),*])
+    ($rt:expr; $run:path; $($($cell:expr),*;)*) => {
+        $run($rt, &[$(($($cell),*)),*])
     };
 }
 
 /// Calls a function for each row, with what stands in it.
 macro_rules! each {
-    ($run:path; $($($cell:expr),*;)*) => {{
-        $($run($($cell),*)?;)*
+    ($rt:expr; $run:path; $($($cell:expr),*;)*) => {{
+        $($run($rt, $($cell),*)?;)*
         Ok::<(), Fail>(())
     }};
 }
@@ -69,20 +70,22 @@ type Entry<T> = (T, Under, usize, Answer, &'static [u8]);
 
 /// Encodes a value under a policy into the first `room` bytes of a buffer: it has to give the answer, and to leave the bytes at the front and the rest as it was.
 fn row<T: Element, C: Policy>(
+    rt: &impl Abort,
     value: &T,
     config: C,
     room: usize,
     answer: Answer,
     bytes: &[u8],
 ) -> Result<(), Fail> {
-    assert!(room <= SIZE);
+    assert!(rt; room <= SIZE);
     let mut buffer = [FILL; SIZE];
     let stored = encode_into_slice(value, &mut buffer[0..room], config);
-    compare(&buffer, stored, answer, bytes).note(format_args!("in a room of {room}"))
+    compare(rt, &buffer, stored, room, answer, bytes)
 }
 
 /// A row under the policy of that name.
 fn row_under<T: Element>(
+    rt: &impl Abort,
     value: &T,
     under: Under,
     room: usize,
@@ -90,49 +93,65 @@ fn row_under<T: Element>(
     bytes: &[u8],
 ) -> Result<(), Fail> {
     match under {
-        LV => row(value, LITTLE_VARIABLE, room, answer, bytes),
-        LF => row(value, LITTLE_FIXED, room, answer, bytes),
-        BV => row(value, BIG_VARIABLE, room, answer, bytes),
-        BF => row(value, BIG_FIXED, room, answer, bytes),
+        LV => row(rt, value, LITTLE_VARIABLE, room, answer, bytes),
+        LF => row(rt, value, LITTLE_FIXED, room, answer, bytes),
+        BV => row(rt, value, BIG_VARIABLE, room, answer, bytes),
+        BF => row(rt, value, BIG_FIXED, room, answer, bytes),
     }
 }
 
 /// The rows of a table.
-fn rows<T: Element>(table: &[Entry<T>]) -> Result<(), Fail> {
+fn rows<T: Element>(rt: &impl Abort, table: &[Entry<T>]) -> Result<(), Fail> {
     for (value, under, room, answer, bytes) in table {
-        row_under(value, *under, *room, *answer, bytes)?;
+        row_under(rt, value, *under, *room, *answer, bytes)?;
     }
     Ok(())
 }
 
 /// A row of a byte string.
 fn bytes_row<C: Policy>(
+    rt: &impl Abort,
     value: &[u8],
     config: C,
     room: usize,
     answer: Answer,
     bytes: &[u8],
 ) -> Result<(), Fail> {
-    assert!(room <= SIZE);
+    assert!(rt; room <= SIZE);
     let mut buffer = [FILL; SIZE];
     let (given, writer) = bytes_into(value, SliceWriter::new(&mut buffer[0..room]), config);
     let len = writer.bytes_written();
-    compare(&buffer, Stored { answer: given, len }, answer, bytes)
+    compare(
+        rt,
+        &buffer,
+        Stored { answer: given, len },
+        room,
+        answer,
+        bytes,
+    )
 }
 
 /// A row of a text.
 fn text_row<C: Policy>(
+    rt: &impl Abort,
     value: &str,
     config: C,
     room: usize,
     answer: Answer,
     bytes: &[u8],
 ) -> Result<(), Fail> {
-    assert!(room <= SIZE);
+    assert!(rt; room <= SIZE);
     let mut buffer = [FILL; SIZE];
     let (given, writer) = text_into(value, SliceWriter::new(&mut buffer[0..room]), config);
     let len = writer.bytes_written();
-    compare(&buffer, Stored { answer: given, len }, answer, bytes)
+    compare(
+        rt,
+        &buffer,
+        Stored { answer: given, len },
+        room,
+        answer,
+        bytes,
+    )
 }
 
 /// Encodes a byte string into a writer, and gives the writer back.
@@ -149,14 +168,21 @@ fn text_into<W: Writer, C: Policy>(text: &str, writer: W, config: C) -> (Answer,
     (answer, encoder.into_writer())
 }
 
-/// Compares what a call did with what it had to do.
-fn compare(buffer: &[u8; SIZE], stored: Stored, answer: Answer, bytes: &[u8]) -> Result<(), Fail> {
-    assert_eq!(stored.answer, answer);
-    assert!(bytes.len() <= SIZE);
-    assert_eq!(&buffer[..bytes.len()], bytes);
-    assert_eq!(stored.len, bytes.len());
+/// Compares what a call into so much room did with what it had to do.
+fn compare(
+    rt: &impl Abort,
+    buffer: &[u8; SIZE],
+    stored: Stored,
+    room: usize,
+    answer: Answer,
+    bytes: &[u8],
+) -> Result<(), Fail> {
+    assert_eq!(rt; stored.answer, answer, "in a room of {room}");
+    assert!(rt; bytes.len() <= SIZE);
+    assert_eq!(rt; &buffer[..bytes.len()], bytes, "in a room of {room}");
+    assert_eq!(rt; stored.len, bytes.len(), "in a room of {room}");
     for b in buffer.iter().skip(bytes.len()) {
-        assert_eq!(*b, FILL);
+        assert_eq!(rt; *b, FILL, "in a room of {room}");
     }
     Ok(())
 }

@@ -8,7 +8,7 @@ returns g c =
     let i = g.D.C.Policy.meaning.encoding in
     let e = g.T.Element.meaning in
     let f = g.T.Decode.reading o i in
-    let within = g.T.Decode.laws.within o i in
+    let within = g.met.T.Decode.laws.within o i in
     let S = g.T.Standing.stands o i in
     let d = c.decode.ensures.decoded.did in
     record {

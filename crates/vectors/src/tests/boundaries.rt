@@ -18,23 +18,24 @@ type Pieces<T> = (T, Under, &'static [u8], &'static [usize]);
 
 /// Encodes a value under a policy into each room up to one byte more than its writing has.
 fn every_room<T: Element, C: Policy>(
+    rt: &impl Abort,
     value: &T,
     config: C,
     bytes: &[u8],
     ends: &[usize],
 ) -> Result<(), Fail> {
-    assert!(bytes.len() < SIZE);
+    assert!(rt; bytes.len() < SIZE);
     for room in 0..bytes.len() + 2 {
         let len = fitting(ends, room);
-        assert!(len <= bytes.len());
+        assert!(rt; len <= bytes.len());
         let answer = if room < bytes.len() {
             Err(UnexpectedEnd)
         } else {
             Ok(())
         };
-        row(value, config, room, answer, &bytes[..len])?;
+        row(rt, value, config, room, answer, &bytes[..len])?;
     }
-    counted(value, config, bytes.len())
+    counted(rt, value, config, bytes.len())
 }
 
 /// How many bytes the pieces have that fit the room.
@@ -49,50 +50,64 @@ fn fitting(ends: &[usize], room: usize) -> usize {
 }
 
 /// A size writer and a page writer take a value and count this many bytes, and where integers are fixed a decoder claims as many.
-fn counted<T: Element, C: Policy>(value: &T, config: C, len: usize) -> Result<(), Fail> {
+fn counted<T: Element, C: Policy>(
+    rt: &impl Abort,
+    value: &T,
+    config: C,
+    len: usize,
+) -> Result<(), Fail> {
     if C::integer_encoding() == IntEncoding::Fixed {
-        assert_eq!(value.claim(), Some(len as u64));
+        assert_eq!(rt; value.claim(), Some(len as u64));
     }
     let mut size = SizeWriter::new();
     encode_into_writer(value, &mut size, config)?;
-    assert_eq!(size.bytes_written(), len);
+    assert_eq!(rt; size.bytes_written(), len);
     let mut page = PageWriter::new();
     encode_into_writer(value, &mut page, config)?;
-    assert_eq!(page.bytes_written(), len);
+    assert_eq!(rt; page.bytes_written(), len);
     Ok(())
 }
 
 /// The writing of a value under the policy of that name.
-fn writing<T: Element>(value: &T, under: Under, bytes: &[u8], ends: &[usize]) -> Result<(), Fail> {
+fn writing<T: Element>(
+    rt: &impl Abort,
+    value: &T,
+    under: Under,
+    bytes: &[u8],
+    ends: &[usize],
+) -> Result<(), Fail> {
     match under {
-        LV => every_room(value, LITTLE_VARIABLE, bytes, ends),
-        LF => every_room(value, LITTLE_FIXED, bytes, ends),
-        BV => every_room(value, BIG_VARIABLE, bytes, ends),
-        BF => every_room(value, BIG_FIXED, bytes, ends),
+        LV => every_room(rt, value, LITTLE_VARIABLE, bytes, ends),
+        LF => every_room(rt, value, LITTLE_FIXED, bytes, ends),
+        BV => every_room(rt, value, BIG_VARIABLE, bytes, ends),
+        BF => every_room(rt, value, BIG_FIXED, bytes, ends),
     }
 }
 
 /// The writings of a table.
-fn writings<T: Element>(table: &[Pieces<T>]) -> Result<(), Fail> {
+fn writings<T: Element>(rt: &impl Abort, table: &[Pieces<T>]) -> Result<(), Fail> {
     for (value, under, bytes, ends) in table {
-        writing(value, *under, bytes, ends)?;
+        writing(rt, value, *under, bytes, ends)?;
     }
     Ok(())
 }
 
 /// Integers in the little byte order: variable, which is one byte or a tag and then the number, and fixed.
-fn little<T: Element>(table: &[(T, &'static [u8], &'static [u8])]) -> Result<(), Fail> {
+fn little<T: Element>(
+    rt: &impl Abort,
+    table: &[(T, &'static [u8], &'static [u8])],
+) -> Result<(), Fail> {
     for (value, variable, fixed) in table {
-        writing(value, LV, variable, &[1, variable.len()])?;
-        writing(value, LF, fixed, &[fixed.len()])?;
+        writing(rt, value, LV, variable, &[1, variable.len()])?;
+        writing(rt, value, LF, fixed, &[fixed.len()])?;
     }
     Ok(())
 }
 
 /// A value whose writing is one piece and the same under each policy.
-fn one_piece<T: Element>(value: &T, bytes: &[u8]) -> Result<(), Fail> {
+fn one_piece<T: Element>(rt: &impl Abort, value: &T, bytes: &[u8]) -> Result<(), Fail> {
     for under in [LV, LF, BV, BF] {
-        writing(value, under, bytes, &[bytes.len()])?;
+        writing(rt, value, under, bytes, &[bytes.len()])?;
     }
     Ok(())
 }

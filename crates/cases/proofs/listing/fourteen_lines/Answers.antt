@@ -24,12 +24,12 @@ given_is x y e = cc
 pub returns : goal.returns
 unfolding char_line duration_line
 returns c =
-    let euro = given_is c.in-ok-euro.euro.code 8364 c.in-ok-euro.ensures in
-    let parts = given_is (duration_parts c.in-ok-duration.duration) (1, 5) c.in-ok-duration.ensures in
-    let ten = c.encode-line-10.ensures ∙ ap char_line euro in
-    let thirteen = c.encode-line-13.ensures ∙ ap (λ (d : ℕ × ℕ). duration_line d.0 d.1) parts in
-    let fourteen = c.encode-line-14.ensures ∙ ap (line_of f64_carried lv_carried) c.from-bits.ensures in
+    let euro = given_is c.in_ok-euro.euro.code 8364 c.in_ok-euro.ensures in
+    let parts = given_is (duration_parts c.in_ok-duration.duration) (1, 5) c.in_ok-duration.ensures in
+    let ten = c.encode_line-10.ensures ∙ ap char_line euro in
+    let thirteen = c.encode_line-13.ensures ∙ ap (λ (d : ℕ × ℕ). duration_line d.0 d.1) parts in
+    let fourteen = c.encode_line-14.ensures ∙ ap (line_of f64_carried lv_carried) c.from_bits.ensures in
     record {
       definitions = refl;
-      lines = λ i. Ok (c.encode-line.ensures i ∷ c.encode-line-2.ensures i ∷ c.encode-line-3.ensures i ∷ c.encode-line-4.ensures i ∷ c.encode-line-5.ensures i ∷ c.encode-line-6.ensures i ∷ c.encode-line-7.ensures i ∷ c.encode-line-8.ensures i ∷ c.encode-line-9.ensures i ∷ ten i ∷ c.encode-line-11.ensures i ∷ c.encode-line-12.ensures i ∷ thirteen i ∷ fourteen i ∷ []);
+      lines = λ i. Ok (c.encode_line.ensures i ∷ c.encode_line-2.ensures i ∷ c.encode_line-3.ensures i ∷ c.encode_line-4.ensures i ∷ c.encode_line-5.ensures i ∷ c.encode_line-6.ensures i ∷ c.encode_line-7.ensures i ∷ c.encode_line-8.ensures i ∷ c.encode_line-9.ensures i ∷ ten i ∷ c.encode_line-11.ensures i ∷ c.encode_line-12.ensures i ∷ thirteen i ∷ fourteen i ∷ []);
     }

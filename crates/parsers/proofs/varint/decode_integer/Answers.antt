@@ -1,4 +1,4 @@
-use Rattle.std.proofs.Common.{ℕ, sym, ap, ◌∙◌, arith}
+use Rattle.std.proofs.Common.{sym, ap, ◌∙◌, arith}
 use Rattle.interfaces.proofs.Doing.{did_then, did_is}
 use Rattle.parsers.proofs.Ranges.{range_wider}
 use Rattle.parsers.proofs.varint.decode_integer.Goals as goal

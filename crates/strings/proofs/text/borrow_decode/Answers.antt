@@ -1,4 +1,3 @@
-use Rattle.std.proofs.Common.{◌≡◌}
 use Rattle.interfaces.proofs.Doing.{did_then, did_stop}
 use Rattle.readings.proofs.Strings.{string_lawful, judging_lawful}
 use Rattle.readings.specs.Strings.{text_judging}

@@ -2,20 +2,20 @@
 use crate::tests::*;
 
 #[test]
-fn results() -> Result<(), Fail> {
-    table! { rows::<Result<u8, bool>>;
+fn results(rt: HostRuntime) -> Result<(), Fail> {
+    table! { &rt; rows::<Result<u8, bool>>;
         Err(true), LF, 20, Ok(()), &[0x01, 0x00, 0x00, 0x00, 0x01];
         Err(true), BF, 9, Ok(()), &[0x00, 0x00, 0x00, 0x01, 0x01];
         Ok(255), LF, 24, Ok(()), &[0x00, 0x00, 0x00, 0x00, 0xff];
         Err(true), BV, 5, Ok(()), &[0x01, 0x01];
         Err(false), LF, 4, Err(UnexpectedEnd), &[0x01, 0x00, 0x00, 0x00];
     }?;
-    table! { rows::<Result<u32, u64>>;
+    table! { &rt; rows::<Result<u32, u64>>;
         Ok(639464), LV, 5, Err(UnexpectedEnd), &[0x00, 0xfc];
         Err(250), BF, 12, Ok(()), &[0x00, 0x00, 0x00, 0x01, 0x00, 0x00, 0x00, 0x00, 0x00, 0x00, 0x00, 0xfa];
         Err(254), BV, 3, Err(UnexpectedEnd), &[0x01, 0xfb];
     }?;
-    table! { rows::<Result<Option<u16>, i64>>;
+    table! { &rt; rows::<Result<Option<u16>, i64>>;
         Ok(Some(254)), BV, 3, Err(UnexpectedEnd), &[0x00, 0x01, 0xfb];
         Err(4294967295), BV, 4, Err(UnexpectedEnd), &[0x01, 0xfd];
         Err(253500366), BV, 3, Err(UnexpectedEnd), &[0x01, 0xfc];
@@ -25,15 +25,15 @@ fn results() -> Result<(), Fail> {
 }
 
 #[test]
-fn bounds_of_integers() -> Result<(), Fail> {
-    table! { rows::<Bound<u16>>;
+fn bounds_of_integers(rt: HostRuntime) -> Result<(), Fail> {
+    table! { &rt; rows::<Bound<u16>>;
         Bound::Excluded(1), BV, 12, Ok(()), &[0x02, 0x01];
         Bound::Included(2), LV, 2, Ok(()), &[0x01, 0x02];
         Bound::Included(24), LV, 1, Err(UnexpectedEnd), &[0x01];
         Bound::Excluded(1), BF, 5, Err(UnexpectedEnd), &[0x00, 0x00, 0x00, 0x02];
         Bound::Excluded(254), BV, 2, Err(UnexpectedEnd), &[0x02, 0xfb];
     }?;
-    table! { rows::<Bound<u64>>;
+    table! { &rt; rows::<Bound<u64>>;
         Bound::Unbounded, LF, 4, Ok(()), &[0x00, 0x00, 0x00, 0x00];
         Bound::Included(255), LV, 2, Err(UnexpectedEnd), &[0x01, 0xfb];
         Bound::Included(251), BV, 3, Err(UnexpectedEnd), &[0x01, 0xfb];
@@ -43,8 +43,8 @@ fn bounds_of_integers() -> Result<(), Fail> {
 }
 
 #[test]
-fn bounds_of_characters() -> Result<(), Fail> {
-    each! { row;
+fn bounds_of_characters(rt: HostRuntime) -> Result<(), Fail> {
+    each! { &rt; row;
         &Bound::<Char>::Unbounded, BIG_FIXED, 0, Err(UnexpectedEnd), &[];
         &Bound::<Char>::Unbounded, BIG_VARIABLE, 12, Ok(()), &[0x00];
         &Bound::Included(scalar(128)?), BIG_FIXED, 0, Err(UnexpectedEnd), &[];

@@ -2,24 +2,24 @@
 use crate::tests::*;
 
 /// The rows of a table of characters, by their codes.
-fn char_rows(table: &[Entry<u32>]) -> Result<(), Fail> {
+fn char_rows(rt: &impl Abort, table: &[Entry<u32>]) -> Result<(), Fail> {
     for (code, under, room, answer, bytes) in table {
-        row_under(&scalar(*code)?, *under, *room, *answer, bytes)?;
+        row_under(rt, &scalar(*code)?, *under, *room, *answer, bytes)?;
     }
     Ok(())
 }
 
 /// The rows of a table of durations, by their seconds and nanoseconds.
-fn duration_rows(table: &[Entry<(u64, u32)>]) -> Result<(), Fail> {
+fn duration_rows(rt: &impl Abort, table: &[Entry<(u64, u32)>]) -> Result<(), Fail> {
     for ((secs, nanos), under, room, answer, bytes) in table {
-        row_under(&span(*secs, *nanos)?, *under, *room, *answer, bytes)?;
+        row_under(rt, &span(*secs, *nanos)?, *under, *room, *answer, bytes)?;
     }
     Ok(())
 }
 
 #[test]
-fn characters() -> Result<(), Fail> {
-    table! { char_rows;
+fn characters(rt: HostRuntime) -> Result<(), Fail> {
+    table! { &rt; char_rows;
         8364, LV, 20, Ok(()), &[0xe2, 0x82, 0xac];
         128, LF, 8, Ok(()), &[0xc2, 0x80];
         127, BV, 3, Ok(()), &[0x7f];
@@ -32,8 +32,8 @@ fn characters() -> Result<(), Fail> {
 }
 
 #[test]
-fn durations() -> Result<(), Fail> {
-    table! { duration_rows;
+fn durations(rt: HostRuntime) -> Result<(), Fail> {
+    table! { &rt; duration_rows;
         (1, 5), LV, 20, Ok(()), &[0x01, 0x05];
         (254, 294967295), LV, 20, Ok(()), &[0xfb, 0xfe, 0x00, 0xfc, 0xff, 0xd7, 0x94, 0x11];
         (1, 999999999), BV, 1, Err(UnexpectedEnd), &[0x01];
@@ -45,8 +45,8 @@ fn durations() -> Result<(), Fail> {
 }
 
 #[test]
-fn doubles() -> Result<(), Fail> {
-    each! { row;
+fn doubles(rt: HostRuntime) -> Result<(), Fail> {
+    each! { &rt; row;
         &F64::from_bits(0x3ff0_0000_0000_0000), LITTLE_VARIABLE, 20, Ok(()), &[0x00, 0x00, 0x00, 0x00, 0x00, 0x00, 0xf0, 0x3f];
         &F64::from_bits(0x78ec_e903_0656_413d), BIG_VARIABLE, 0, Err(UnexpectedEnd), &[];
         &F64::from_bits(0x3ff0_0000_0000_0000), BIG_VARIABLE, 2, Err(UnexpectedEnd), &[];

@@ -2,36 +2,36 @@
 use crate::tests::boundaries::*;
 
 /// An empty buffer refuses a value under each policy.
-fn no_room<T: Element>(value: &T) -> Result<(), Fail> {
+fn no_room<T: Element>(rt: &impl Abort, value: &T) -> Result<(), Fail> {
     for under in [LV, LF, BV, BF] {
-        row_under(value, under, 0, Err(UnexpectedEnd), &[])?;
+        row_under(rt, value, under, 0, Err(UnexpectedEnd), &[])?;
     }
     Ok(())
 }
 
 #[test]
-fn empty_buffer() -> Result<(), Fail> {
-    no_room(&false)?;
-    no_room(&0u8)?;
-    no_room(&0u16)?;
-    no_room(&0u32)?;
-    no_room(&0u64)?;
-    no_room(&0usize)?;
-    no_room(&0i16)?;
-    no_room(&0i32)?;
-    no_room(&0i64)?;
-    no_room(&F64::from_bits(0))?;
-    no_room(&scalar(0)?)?;
-    no_room(&span(0, 0)?)?;
-    no_room(&None::<u8>)?;
-    no_room(&Result::<u8, u8>::Ok(0))?;
-    no_room(&Bound::<u8>::Unbounded)?;
-    no_room(&(0u8, 0u8))
+fn empty_buffer(rt: HostRuntime) -> Result<(), Fail> {
+    no_room(&rt, &false)?;
+    no_room(&rt, &0u8)?;
+    no_room(&rt, &0u16)?;
+    no_room(&rt, &0u32)?;
+    no_room(&rt, &0u64)?;
+    no_room(&rt, &0usize)?;
+    no_room(&rt, &0i16)?;
+    no_room(&rt, &0i32)?;
+    no_room(&rt, &0i64)?;
+    no_room(&rt, &F64::from_bits(0))?;
+    no_room(&rt, &scalar(0)?)?;
+    no_room(&rt, &span(0, 0)?)?;
+    no_room(&rt, &None::<u8>)?;
+    no_room(&rt, &Result::<u8, u8>::Ok(0))?;
+    no_room(&rt, &Bound::<u8>::Unbounded)?;
+    no_room(&rt, &(0u8, 0u8))
 }
 
 #[test]
-fn strings() -> Result<(), Fail> {
-    each! { bytes_row;
+fn strings(rt: HostRuntime) -> Result<(), Fail> {
+    each! { &rt; bytes_row;
         &[], LITTLE_VARIABLE, 1, Ok(()), &[0x00];
         &[], LITTLE_VARIABLE, 0, Err(UnexpectedEnd), &[];
         &[], LITTLE_FIXED, 8, Ok(()), &[0x00, 0x00, 0x00, 0x00, 0x00, 0x00, 0x00, 0x00];
@@ -39,7 +39,7 @@ fn strings() -> Result<(), Fail> {
         &[0xff, 0x00], LITTLE_VARIABLE, 3, Ok(()), &[0x02, 0xff, 0x00];
         &[0xff, 0x00], LITTLE_VARIABLE, 2, Err(UnexpectedEnd), &[0x02];
     }?;
-    each! { text_row;
+    each! { &rt; text_row;
         "", BIG_FIXED, 8, Ok(()), &[0x00, 0x00, 0x00, 0x00, 0x00, 0x00, 0x00, 0x00];
         "", BIG_FIXED, 7, Err(UnexpectedEnd), &[];
         "€", BIG_FIXED, 11, Ok(()), &[0x00, 0x00, 0x00, 0x00, 0x00, 0x00, 0x00, 0x03, 0xe2, 0x82, 0xac];

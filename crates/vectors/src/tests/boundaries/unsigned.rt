@@ -2,8 +2,8 @@
 use crate::tests::boundaries::*;
 
 #[test]
-fn each_size() -> Result<(), Fail> {
-    table! { writings::<u64>;
+fn each_size(rt: HostRuntime) -> Result<(), Fail> {
+    table! { &rt; writings::<u64>;
         250, LV, &[0xfa], &[1];
         251, LV, &[0xfb, 0xfb, 0x00], &[1, 3];
         65535, LV, &[0xfb, 0xff, 0xff], &[1, 3];
@@ -24,21 +24,21 @@ fn each_size() -> Result<(), Fail> {
 }
 
 #[test]
-fn each_width() -> Result<(), Fail> {
-    table! { little::<u16>;
+fn each_width(rt: HostRuntime) -> Result<(), Fail> {
+    table! { &rt; little::<u16>;
         0, &[0x00], &[0x00, 0x00];
         250, &[0xfa], &[0xfa, 0x00];
         251, &[0xfb, 0xfb, 0x00], &[0xfb, 0x00];
         u16::MAX, &[0xfb, 0xff, 0xff], &[0xff, 0xff];
     }?;
-    table! { little::<u32>;
+    table! { &rt; little::<u32>;
         250, &[0xfa], &[0xfa, 0x00, 0x00, 0x00];
         251, &[0xfb, 0xfb, 0x00], &[0xfb, 0x00, 0x00, 0x00];
         65535, &[0xfb, 0xff, 0xff], &[0xff, 0xff, 0x00, 0x00];
         65536, &[0xfc, 0x00, 0x00, 0x01, 0x00], &[0x00, 0x00, 0x01, 0x00];
         u32::MAX, &[0xfc, 0xff, 0xff, 0xff, 0xff], &[0xff, 0xff, 0xff, 0xff];
     }?;
-    table! { little::<usize>;
+    table! { &rt; little::<usize>;
         250, &[0xfa], &[0xfa, 0x00, 0x00, 0x00, 0x00, 0x00, 0x00, 0x00];
         251, &[0xfb, 0xfb, 0x00], &[0xfb, 0x00, 0x00, 0x00, 0x00, 0x00, 0x00, 0x00];
         4294967295, &[0xfc, 0xff, 0xff, 0xff, 0xff], &[0xff, 0xff, 0xff, 0xff, 0x00, 0x00, 0x00, 0x00];
@@ -47,18 +47,24 @@ fn each_width() -> Result<(), Fail> {
 }
 
 #[test]
-fn one_byte() -> Result<(), Fail> {
+fn one_byte(rt: HostRuntime) -> Result<(), Fail> {
     for truth in [false, true] {
-        one_piece(&truth, &[u8::from(truth)])?;
+        one_piece(&rt, &truth, &[u8::from(truth)])?;
     }
     for byte in [0, 1, 249, 250, 251, 252, 253, 254, 255u8] {
-        one_piece(&byte, &[byte])?;
+        one_piece(&rt, &byte, &[byte])?;
     }
     Ok(())
 }
 
 /// A limit says what a decoder may claim, and changes no writing.
 #[test]
-fn under_a_limit() -> Result<(), Fail> {
-    every_room(&251u64, BIG_VARIABLE_4096, &[0xfb, 0x00, 0xfb], &[1, 3])
+fn under_a_limit(rt: HostRuntime) -> Result<(), Fail> {
+    every_room(
+        &rt,
+        &251u64,
+        BIG_VARIABLE_4096,
+        &[0xfb, 0x00, 0xfb],
+        &[1, 3],
+    )
 }

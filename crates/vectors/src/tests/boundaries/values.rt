@@ -2,16 +2,16 @@
 use crate::tests::boundaries::*;
 
 /// The writings of characters, by their codes.
-fn char_writings(table: &[(u32, &'static [u8])]) -> Result<(), Fail> {
+fn char_writings(rt: &impl Abort, table: &[(u32, &'static [u8])]) -> Result<(), Fail> {
     for (code, bytes) in table {
-        one_piece(&scalar(*code)?, bytes)?;
+        one_piece(rt, &scalar(*code)?, bytes)?;
     }
     Ok(())
 }
 
 #[test]
-fn characters() -> Result<(), Fail> {
-    table! { char_writings;
+fn characters(rt: HostRuntime) -> Result<(), Fail> {
+    table! { &rt; char_writings;
         0x00, &[0x00];
         0x7f, &[0x7f];
         0x80, &[0xc2, 0x80];
@@ -26,16 +26,16 @@ fn characters() -> Result<(), Fail> {
 }
 
 /// The writings of durations, by their seconds and nanoseconds.
-fn duration_writings(table: &[Pieces<(u64, u32)>]) -> Result<(), Fail> {
+fn duration_writings(rt: &impl Abort, table: &[Pieces<(u64, u32)>]) -> Result<(), Fail> {
     for ((secs, nanos), under, bytes, ends) in table {
-        writing(&span(*secs, *nanos)?, *under, bytes, ends)?;
+        writing(rt, &span(*secs, *nanos)?, *under, bytes, ends)?;
     }
     Ok(())
 }
 
 #[test]
-fn durations() -> Result<(), Fail> {
-    table! { duration_writings;
+fn durations(rt: HostRuntime) -> Result<(), Fail> {
+    table! { &rt; duration_writings;
         (0, 0), LV, &[0x00, 0x00], &[1, 2];
         (250, 4_294_967_295), LV, &[0xfb, 0xfe, 0x00, 0xfc, 0xff, 0xd7, 0x94, 0x11], &[1, 3, 4, 8];
         (u64::MAX, 999_999_999), LV, &[0xfd, 0xff, 0xff, 0xff, 0xff, 0xff, 0xff, 0xff, 0xff, 0xfc, 0xff, 0xc9, 0x9a, 0x3b], &[1, 9, 10, 14];
@@ -46,9 +46,9 @@ fn durations() -> Result<(), Fail> {
 }
 
 #[test]
-fn doubles() -> Result<(), Fail> {
+fn doubles(rt: HostRuntime) -> Result<(), Fail> {
     let nan = F64::from_bits(0x7ff8_0000_0000_0001);
-    each! { writing;
+    each! { &rt; writing;
         &nan, LV, &[0x01, 0x00, 0x00, 0x00, 0x00, 0x00, 0xf8, 0x7f], &[8];
         &nan, BV, &[0x7f, 0xf8, 0x00, 0x00, 0x00, 0x00, 0x00, 0x01], &[8];
         &nan, LF, &[0x01, 0x00, 0x00, 0x00, 0x00, 0x00, 0xf8, 0x7f], &[8];

@@ -1,5 +1,5 @@
 -- A run of stores from the place, cut to the end.
-use Rattle.std.proofs.Common.{◌≡◌, ap, ◌∙◌, arith, rules}
+use Rattle.std.proofs.Common.{ap, ◌∙◌, arith, rules}
 use lib.Seq.{sets, sets-eq}
 use Rattle.std.proofs.lemmas.Slice.{overwrites}
 use Rattle.writers.proofs.Cut.{sets_cut}

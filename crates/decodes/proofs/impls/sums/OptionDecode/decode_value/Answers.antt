@@ -4,10 +4,10 @@ use Rattle.std.proofs.lemmas.Result.{err_from_is_err_and}
 use Rattle.std.proofs.Common.{Ok, Err}
 
 -- Some: its value was refused, and it was given
-pub returns-in-err-decode : goal.returns-in-err-decode
-returns-in-err-decode g c =
-    let p = err_from_is_err_and c.from-residual-in-err-decode.result c.from-residual-in-err-decode.ensures.1 in
-    rw (p.1, p.2) (some_decoded g.D.R.Reader.laws g.D.C.Policy.meaning g.T.Element.meaning g.T.Decode.reading g.T.Decode.laws c.in-ok-found.ensures.decoded c.in-1.is (Err c.in-err-decode.field-0.0) c.in-err-decode.ensures.decoded)
+pub returns-in_err-decode-in-1 : goal.returns-in_err-decode-in-1
+returns-in_err-decode-in-1 g c =
+    let p = err_from_is_err_and c.from_residual-in_err-decode-in-1.result c.from_residual-in_err-decode-in-1.ensures.1 in
+    rw (p.1, p.2) (some_decoded g.D.R.Reader.laws g.D.C.Policy.meaning g.T.Element.meaning g.T.Decode.reading g.met.T.Decode.laws c.in_ok-found.ensures.decoded c.in-1.is (Err c.in_err-decode-in-1.field-0.0) c.in_err-decode-in-1.ensures.decoded)
 
-pub returns-in-ok-decode : goal.returns-in-ok-decode
-returns-in-ok-decode g c = some_decoded g.D.R.Reader.laws g.D.C.Policy.meaning g.T.Element.meaning g.T.Decode.reading g.T.Decode.laws c.in-ok-found.ensures.decoded c.in-1.is (Ok c.in-ok-decode.field-0) c.in-ok-decode.ensures.decoded
+pub returns-in_ok-decode-in-1 : goal.returns-in_ok-decode-in-1
+returns-in_ok-decode-in-1 g c = some_decoded g.D.R.Reader.laws g.D.C.Policy.meaning g.T.Element.meaning g.T.Decode.reading g.met.T.Decode.laws c.in_ok-found.ensures.decoded c.in-1.is (Ok c.in_ok-decode-in-1.field-0) c.in_ok-decode-in-1.ensures.decoded
