@@ -35,6 +35,10 @@ marks_of U128 = Marks.equal
 marks_of I128 = Marks.equal
 marks_of Reserved = Marks.equal
 
+-- each type has two bytes at least
+pub width_two : (t : IntegerType) → 2 ≤ type_width t
+width_two t = two_fit (width_of t)
+
 -- a number in k bytes
 pub number_lawful : (o : Endianness) (k : ℕ) → Lawful 2 (0 + 2 * k) 0 (number_reading o k)
 number_lawful o k = then_lawful 2 (0 + 2 * k) 0 0 (taking k) (λ bs. giving (number o bs)) (taking_lawful 2 0 k) (λ bs. giving_lawful 2 0 (number o bs))
@@ -102,7 +106,7 @@ module _ (t : IntegerType) (o : Endianness) where
       tag = get_or s.waiting 0 0
 
       long_s : 1 ≤ length s.waiting
-      long_s = let w = two_fit (width_of t) in omega arith
+      long_s = let w = width_two t in omega arith
 
       by : (b : Bool) → is_wide t (get_or s.waiting 0 0) ≡ b → (peeked_first t o s ≡ tag_first t o u) ⊎ Marked s u (peeked_first t o s) (tag_first t o u)
       by false e = inl (ap (λ (f : Reading ℕ). f s) (cond-false (is_wide t (get_or s.waiting 0 0)) _ _ e) ∙ tag_first_blind s u same)
@@ -134,7 +138,7 @@ module _ (t : IntegerType) (o : Endianness) where
       (λ _. weaker (number_reading o (type_width t)) 2 (2 * type_width t) 0 2 (0 + 3 * type_width t) 0 (omega arith) (omega arith) (omega arith) (long_lawful (type_width t) (omega arith)))
   integer_lawful Variable =
       then_lawful 2 0 (0 + 3 * type_width t) 0 (claiming (type_width t)) (λ _. variable_reading t o) (claiming_lawful 2 0 (type_width t))
-      (λ _. weaker (variable_reading t o) 2 (2 * type_width t + 2 * 1) 0 2 (0 + 3 * type_width t) 0 (omega arith) (let w = two_fit (width_of t) in omega arith) (omega arith) variable_lawful)
+      (λ _. weaker (variable_reading t o) 2 (2 * type_width t + 2 * 1) 0 2 (0 + 3 * type_width t) 0 (omega arith) (let w = width_two t in omega arith) (omega arith) variable_lawful)
 
 -- ---- what stands for a number is returned
 
