@@ -1,2 +1,2 @@
-//! What the element types mean, and that they keep the laws of an element. There is no code here: the definitions stand in `specs/`, the proofs in `proofs/`, and the code that has these meanings in `elements`.
+//! The laws of an element type that is read, and that every type keeps them. There is no code here: the definitions stand in `specs/`, the proofs in `proofs/`, and the code that owes the laws in `decodes`.
 #![tactic(auto)]
