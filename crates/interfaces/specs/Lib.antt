@@ -4,5 +4,6 @@ pub mod Lent
 pub mod Readers
 pub mod LentReaders
 pub mod Decodes
+pub mod Calls
 pub mod Pieces
 pub mod Standing

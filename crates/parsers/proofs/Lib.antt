@@ -1,4 +1,5 @@
 mod Rows
+mod Numbers
 mod Tags
 mod Seen
 mod Peeks

@@ -10,7 +10,6 @@ use Rattle.interfaces.specs.Policies.{PolicyMeaning}
 use Rattle.interfaces.specs.Readers.{ReaderMeaning, ReaderLaws}
 use Rattle.parsers.proofs.Seen.{seen_value, seen_too_wide}
 use Rattle.parsers.specs.Tags.{seen_in}
-use Rattle.parsers.specs.declared.varint.Seen.TheVariants.{Value, TooWide}
 use Rattle.readings.proofs.Integers.{out_of_view}
 use Rattle.readings.specs.Integers.{type_width, peek_name, tag_first, variable_reading}
 use Rattle.readings.specs.Laws.{too_wide}
@@ -41,7 +40,7 @@ module _ {R : Type 0} {m : ReaderMeaning R} (laws : ReaderLaws m) (p : PolicyMea
       (omega (arith, leb-true (w + 1) (m.view r) k.0, wide), k.1 ∙ ap (λ x. take (x + 1) (m.waiting r)) wide)
 
   -- and a number was parsed of them
-  pub value_did : (o' : Endianness) (bytes : List ℕ) (v u : ℕ) {r' : R} {n' : ℕ} → o' ≡ o → Some bytes ≡ peek → Value v u ≡ seen_in t o' bytes → r' ≡ m.gone (min u (m.view r)) r → n' ≡ n → Did (variable_reading t o) p m r n (Ok v) r' n'
+  pub value_did : (o' : Endianness) (bytes : List ℕ) (v u : ℕ) {r' : R} {n' : ℕ} → o' ≡ o → Some bytes ≡ peek → Ok (v, u) ≡ seen_in t o' bytes → r' ≡ m.gone (min u (m.view r)) r → n' ≡ n → Did (variable_reading t o) p m r n (Ok v) r' n'
   value_did o' bytes v u same e q holds counts =
       let k = seen bytes e in
       let s = source m p.limit r n in
@@ -53,7 +52,7 @@ module _ {R : Type 0} {m : ReaderMeaning R} (laws : ReaderLaws m) (p : PolicyMea
       }
 
   -- and their tag is too wide
-  pub wide_did : (o' : Endianness) (bytes : List ℕ) (f : IntegerType) (z : DecodeError) → o' ≡ o → Some bytes ≡ peek → TooWide f ≡ seen_in t o' bytes → decode_refusal z ≡ too_wide (peek_name t) f → Did (variable_reading t o) p m r n (Err z) r n
+  pub wide_did : (o' : Endianness) (bytes : List ℕ) (f : IntegerType) (z : DecodeError) → o' ≡ o → Some bytes ≡ peek → Err f ≡ seen_in t o' bytes → decode_refusal z ≡ too_wide (peek_name t) f → Did (variable_reading t o) p m r n (Err z) r n
   wide_did o' bytes f z same e q told =
       let k = seen bytes e in
       let s = source m p.limit r n in

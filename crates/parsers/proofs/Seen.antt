@@ -1,14 +1,11 @@
 -- What the bytes in view hold is what a variable integer's reading says.
-use Rattle.std.proofs.Common.{◌≡◌, ℕ, ◌+◌, ◌-◌, ◌<◌, ◌≤◌, leb, List, [], ◌∷◌, length, get_or, take, drop, sym, refl, ap, ◌∙◌, add-one, arith, length-drop, take_all, take-take, le-leb}
+use Rattle.std.proofs.Common.{◌≡◌, ℕ, ◌+◌, ◌-◌, ◌<◌, ◌≤◌, leb, List, [], ◌∷◌, length, get_or, take, drop, Some, None, Ok, Err, Option, Result, sym, refl, ap, ◌∙◌, add-one, arith, length-drop, take_all, take-take, le-leb}
 use Rattle.format.specs.Numbers.{number}
 use Rattle.format.specs.Refusals.{given, refused}
 use Rattle.format.specs.declared.config.Endianness.{Endianness}
 use Rattle.format.specs.declared.error.IntegerType.{IntegerType}
 use Rattle.parsers.proofs.Tags.{follows_reads, number_reads, wide_kind, narrow_number, narrow_follows, follows_fits}
 use Rattle.parsers.specs.Tags.{tag_kind, seen_by, seen_in}
-use Rattle.parsers.specs.declared.varint.Seen.TheVariants.{Value, TooWide}
-use Rattle.parsers.specs.declared.varint.Tag.{Tag}
-use Rattle.parsers.specs.declared.varint.Tag.TheVariants.{Number, Follows, Wide}
 use Rattle.primitives.specs.Widths.{size}
 use Rattle.primitives.specs.declared.varint.Width.{Width}
 use Rattle.readings.proofs.Integers.{tag_first_on, in_view_wide, in_view_narrow}
@@ -27,10 +24,10 @@ parsed_front : (t : IntegerType) (o : Endianness) (n : ℕ) (xs : List ℕ) → 
 parsed_front t o n [] h = absurd (omega arith)
 parsed_front t o n (y ∷ ys) h = ap (λ k. seen_in t o (take k (y ∷ ys))) (add-one n)
 
-value_of : (v u a b : ℕ) → Value v u ≡ Value a b → (v ≡ a) × (u ≡ b)
-value_of v u a b e = (cc, cc)
+value_of : (v u a b : ℕ) → ◌≡◌ {A = Result (ℕ × ℕ) IntegerType} (Ok (v, u)) (Ok (a, b)) → (v ≡ a) × (u ≡ b)
+value_of v u a b e = let same : ◌≡◌ {A = ℕ × ℕ} (v, u) (a, b) = cc in (ap (λ (p : ℕ × ℕ). p.0) same, ap (λ (p : ℕ × ℕ). p.1) same)
 
-wide_of : (f g : IntegerType) → TooWide f ≡ TooWide g → f ≡ g
+wide_of : (f g : IntegerType) → ◌≡◌ {A = Result (ℕ × ℕ) IntegerType} (Err f) (Err g) → f ≡ g
 wide_of f g e = cc
 
 module _ (t : IntegerType) (o : Endianness) (s : Source) (h : type_width t + 1 ≤ in_view s) where
@@ -38,13 +35,13 @@ module _ (t : IntegerType) (o : Endianness) (s : Source) (h : type_width t + 1 �
   x = get_or s.waiting 0 0
 
   -- a number that is its own tag
-  seen_number : Number ≡ tag_kind t x → variable_reading t o s ≡ outcome (given x) 1 s.count
+  seen_number : Ok None ≡ tag_kind t x → variable_reading t o s ≡ outcome (given x) 1 s.count
   seen_number e =
       in_view_narrow t o s h (narrow_number t o x e) ∙ tag_first_on t o s (omega arith)
       ∙ ap (λ (f : Reading ℕ). outcome (f (moved 1 s.count s)).answer (1 + (f (moved 1 s.count s)).used) (f (moved 1 s.count s)).counted) (sym (number_reads t o x e))
 
   -- a number that follows its tag
-  seen_follows : (w : Width) → Follows w ≡ tag_kind t x → variable_reading t o s ≡ outcome (given (number o (take (size w) (drop 1 s.waiting)))) (1 + size w) s.count
+  seen_follows : (w : Width) → Ok (Some w) ≡ tag_kind t x → variable_reading t o s ≡ outcome (given (number o (take (size w) (drop 1 s.waiting)))) (1 + size w) s.count
   seen_follows w e =
       let k = size w in
       let m = moved 1 s.count s in
@@ -56,7 +53,7 @@ module _ (t : IntegerType) (o : Endianness) (s : Source) (h : type_width t + 1 �
       ∙ ap (λ u. outcome (given (number o (take k (drop 1 s.waiting)))) u s.count) (omega arith)
 
   -- a tag that is too wide
-  seen_wide : (f : IntegerType) → Wide f ≡ tag_kind t x → variable_reading t o s ≡ outcome (refused (too_wide (peek_name t) f)) 0 s.count
+  seen_wide : (f : IntegerType) → Err f ≡ tag_kind t x → variable_reading t o s ≡ outcome (refused (too_wide (peek_name t) f)) 0 s.count
   seen_wide f e =
       let k = wide_kind t o x f e in
       in_view_wide t o s h k.0 ∙ ap (λ y. outcome (refused (too_wide (peek_name t) y)) 0 s.count) (sym k.1)
@@ -65,22 +62,22 @@ module _ (t : IntegerType) (o : Endianness) (s : Source) (h : type_width t + 1 �
   front : seen_in t o (take (type_width t + 1) s.waiting) ≡ seen_by o x (take (type_width t) (drop 1 s.waiting)) (tag_kind t x)
   front = parsed_front t o (type_width t) s.waiting (omega arith)
 
-  pub seen_value : (v u : ℕ) → Value v u ≡ seen_in t o (take (type_width t + 1) s.waiting) → (variable_reading t o s ≡ outcome (given v) u s.count) × (u ≤ type_width t + 1)
+  pub seen_value : (v u : ℕ) → Ok (v, u) ≡ seen_in t o (take (type_width t + 1) s.waiting) → (variable_reading t o s ≡ outcome (given v) u s.count) × (u ≤ type_width t + 1)
   seen_value v u e = by (tag_kind t x) refl (e ∙ front)
     where
-      by : (k : Tag) → k ≡ tag_kind t x → Value v u ≡ seen_by o x (take (type_width t) (drop 1 s.waiting)) k → (variable_reading t o s ≡ outcome (given v) u s.count) × (u ≤ type_width t + 1)
-      by Number p q = let r = value_of v u x 1 q in (seen_number p ∙ (λ i. outcome (given (sym r.0 i)) (sym r.1 i) s.count), omega (arith, r.1))
-      by (Follows w) p q =
+      by : (k : Result (Option Width) IntegerType) → k ≡ tag_kind t x → Ok (v, u) ≡ seen_by o x (take (type_width t) (drop 1 s.waiting)) k → (variable_reading t o s ≡ outcome (given v) u s.count) × (u ≤ type_width t + 1)
+      by (Ok None) p q = let r = value_of v u x 1 q in (seen_number p ∙ (λ i. outcome (given (sym r.0 i)) (sym r.1 i) s.count), omega (arith, r.1))
+      by (Ok (Some w)) p q =
           let fits = follows_fits t o x w p in
           let r = value_of v u (number o (take (size w) (take (type_width t) (drop 1 s.waiting)))) (1 + size w) q in
           let same : number o (take (size w) (drop 1 s.waiting)) ≡ v = ap (number o) (sym (take-take (size w) (type_width t) (drop 1 s.waiting) fits)) ∙ sym r.0 in
           (seen_follows w p ∙ (λ i. outcome (given (same i)) (sym r.1 i) s.count), omega (arith, r.1))
-      by (Wide f) p q = let z : ◌≡◌ {A = ℕ} 0 1 = cc in absurd (omega arith)
+      by (Err f) p q = let z : ◌≡◌ {A = ℕ} 0 1 = cc in absurd (omega arith)
 
-  pub seen_too_wide : (f : IntegerType) → TooWide f ≡ seen_in t o (take (type_width t + 1) s.waiting) → variable_reading t o s ≡ outcome (refused (too_wide (peek_name t) f)) 0 s.count
+  pub seen_too_wide : (f : IntegerType) → Err f ≡ seen_in t o (take (type_width t + 1) s.waiting) → variable_reading t o s ≡ outcome (refused (too_wide (peek_name t) f)) 0 s.count
   seen_too_wide f e = by (tag_kind t x) refl (e ∙ front)
     where
-      by : (k : Tag) → k ≡ tag_kind t x → TooWide f ≡ seen_by o x (take (type_width t) (drop 1 s.waiting)) k → variable_reading t o s ≡ outcome (refused (too_wide (peek_name t) f)) 0 s.count
-      by Number p q = let z : ◌≡◌ {A = ℕ} 0 1 = cc in absurd (omega arith)
-      by (Follows w) p q = let z : ◌≡◌ {A = ℕ} 0 1 = cc in absurd (omega arith)
-      by (Wide g) p q = seen_wide g p ∙ ap (λ y. outcome (refused (too_wide (peek_name t) y)) 0 s.count) (sym (wide_of f g q))
+      by : (k : Result (Option Width) IntegerType) → k ≡ tag_kind t x → Err f ≡ seen_by o x (take (type_width t) (drop 1 s.waiting)) k → variable_reading t o s ≡ outcome (refused (too_wide (peek_name t) f)) 0 s.count
+      by (Ok None) p q = let z : ◌≡◌ {A = ℕ} 0 1 = cc in absurd (omega arith)
+      by (Ok (Some w)) p q = let z : ◌≡◌ {A = ℕ} 0 1 = cc in absurd (omega arith)
+      by (Err g) p q = seen_wide g p ∙ ap (λ y. outcome (refused (too_wide (peek_name t) y)) 0 s.count) (sym (wide_of f g q))

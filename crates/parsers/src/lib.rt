@@ -1,4 +1,4 @@
-//! What the element types are read with: integers of every width, and characters.
+//! What the element types are read with: integers of every width.
 #![tactic(auto)]
 
 pub mod varint;

@@ -1,7 +1,7 @@
 //! The UTF-8 form of a character.
 ghost use Rattle.std.specs.Prelude.{◌≡◌};
 ghost use Rattle.format.specs.Utf8.{utf8, width, continuation as continuation-byte};
-ghost use Rattle.interfaces.specs.Writers.{Written};
+ghost use Rattle.interfaces.specs.Calls.{Writes};
 
 use format::error::EncodeError;
 use format::scalar::Char;
@@ -30,7 +30,7 @@ fn continuation(n: u32) -> u8
 
 /// Writes the UTF-8 form of a character as one piece.
 pub fn encode_utf8<E: Encoder>(encoder: &mut E, c: Char) -> Result<(), EncodeError>
-    ensures { Written E.W.Writer.meaning (E.Encoder.writer encoder.old) (utf8 c.code) result (E.Encoder.writer encoder.new) }
+    ensures { Writes E.Encoder E.W.Writer (utf8 c.code) encoder.old result encoder.new }
 {
     let code = c.code();
     if code < MAX_ONE_B {

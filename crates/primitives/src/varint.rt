@@ -1,8 +1,7 @@
 //! Integers: fixed at their full width, or variable by their size. One text for all widths.
 ghost use Rattle.format.specs.Integers.{tagged, variable, unsigned_writing, zigzag as zigzagged, signed_writing};
 ghost use Rattle.format.specs.Numbers.{bytes};
-ghost use Rattle.interfaces.specs.Pieces.{Offered};
-ghost use Rattle.interfaces.specs.Writers.{Written};
+ghost use Rattle.interfaces.specs.Calls.{Writes, Offers};
 ghost use Rattle.primitives.specs.Widths.{size};
 ghost use Rattle.std.specs.Prelude.{◌≡◌};
 
@@ -44,7 +43,7 @@ impl Width {
 
 /// Writes the lowest bytes of a number, as many as the width says, in the policy's byte order and as one piece.
 pub fn put_number<E: Encoder>(encoder: &mut E, width: Width, n: u64) -> Result<(), EncodeError>
-    ensures { Written E.W.Writer.meaning (E.Encoder.writer encoder.old) (bytes E.C.Policy.meaning.order (size width) n) result (E.Encoder.writer encoder.new) }
+    ensures { Writes E.Encoder E.W.Writer (bytes E.C.Policy.meaning.order (size width) n) encoder.old result encoder.new }
 {
     let size = width.size();
     match E::C::endianness() {
@@ -55,7 +54,7 @@ pub fn put_number<E: Encoder>(encoder: &mut E, width: Width, n: u64) -> Result<(
 
 /// Offers a tag, and then a number in that many bytes.
 fn put_tagged<E: Encoder>(encoder: &mut E, tag: u8, width: Width, n: u64) -> Result<(), EncodeError>
-    ensures { Offered E.W.Writer.meaning (E.Encoder.writer encoder.old) (tagged E.C.Policy.meaning.order tag (size width) n) result (E.Encoder.writer encoder.new) }
+    ensures { Offers E.Encoder E.W.Writer (tagged E.C.Policy.meaning.order tag (size width) n) encoder.old result encoder.new }
 {
     encoder.write(&[tag])?;
     put_number(encoder, width, n)
@@ -63,7 +62,7 @@ fn put_tagged<E: Encoder>(encoder: &mut E, tag: u8, width: Width, n: u64) -> Res
 
 /// Offers the variable writing of a number.
 fn put_variable<E: Encoder>(encoder: &mut E, n: u64) -> Result<(), EncodeError>
-    ensures { Offered E.W.Writer.meaning (E.Encoder.writer encoder.old) (variable E.C.Policy.meaning.order n) result (E.Encoder.writer encoder.new) }
+    ensures { Offers E.Encoder E.W.Writer (variable E.C.Policy.meaning.order n) encoder.old result encoder.new }
 {
     if n < 251 {
         encoder.write(&[n as u8])
@@ -78,7 +77,7 @@ fn put_variable<E: Encoder>(encoder: &mut E, n: u64) -> Result<(), EncodeError>
 
 /// Offers the writing of an unsigned integer of a width.
 pub fn encode_unsigned<E: Encoder>(encoder: &mut E, width: Width, n: u64) -> Result<(), EncodeError>
-    ensures { Offered E.W.Writer.meaning (E.Encoder.writer encoder.old) (unsigned_writing (size width) E.C.Policy.meaning.order E.C.Policy.meaning.encoding n) result (E.Encoder.writer encoder.new) }
+    ensures { Offers E.Encoder E.W.Writer (unsigned_writing (size width) E.C.Policy.meaning.order E.C.Policy.meaning.encoding n) encoder.old result encoder.new }
 {
     match E::C::integer_encoding() {
         IntEncoding::Fixed => put_number(encoder, width, n),
@@ -99,7 +98,7 @@ fn zigzag(n: i64) -> u64
 
 /// Offers the writing of a signed integer of a width; of one that does not fit the width, that of its lowest bytes.
 pub fn encode_signed<E: Encoder>(encoder: &mut E, width: Width, n: i64) -> Result<(), EncodeError>
-    ensures { Offered E.W.Writer.meaning (E.Encoder.writer encoder.old) (signed_writing (size width) E.C.Policy.meaning.order E.C.Policy.meaning.encoding n) result (E.Encoder.writer encoder.new) }
+    ensures { Offers E.Encoder E.W.Writer (signed_writing (size width) E.C.Policy.meaning.order E.C.Policy.meaning.encoding n) encoder.old result encoder.new }
 {
     match E::C::integer_encoding() {
         IntEncoding::Fixed => put_number(encoder, width, n.cast_unsigned()),

@@ -1,5 +1,5 @@
 //! `u8` and `bool`: one byte in both integer encodings.
-ghost use Rattle.interfaces.specs.Decodes.{Did};
+ghost use Rattle.interfaces.specs.Calls.{Reads};
 ghost use Rattle.readings.specs.Scalars.{next_byte, byte_reading, truth_reading};
 
 use format::error::DecodeError;
@@ -7,7 +7,7 @@ use interfaces::de::decoder::Decoder;
 
 // The next byte.
 fn read_byte<D: Decoder>(decoder: &mut D) -> Result<u8, DecodeError>
-    ensures { Did next_byte D.C.Policy.meaning D.R.Reader.meaning (D.Decoder.reader decoder.old) (D.Decoder.count decoder.old) result (D.Decoder.reader decoder.new) (D.Decoder.count decoder.new) }
+    ensures { Reads D.Decoder D.C.Policy D.R.Reader next_byte decoder.old result decoder.new }
 {
     let mut byte = [0u8; 1];
     decoder.read(&mut byte)?;
@@ -16,7 +16,7 @@ fn read_byte<D: Decoder>(decoder: &mut D) -> Result<u8, DecodeError>
 
 /// Reads a byte.
 pub fn decode_byte<D: Decoder>(decoder: &mut D) -> Result<u8, DecodeError>
-    ensures { Did byte_reading D.C.Policy.meaning D.R.Reader.meaning (D.Decoder.reader decoder.old) (D.Decoder.count decoder.old) result (D.Decoder.reader decoder.new) (D.Decoder.count decoder.new) }
+    ensures { Reads D.Decoder D.C.Policy D.R.Reader byte_reading decoder.old result decoder.new }
 {
     decoder.claim_bytes_read(1)?;
     read_byte(decoder)
@@ -24,7 +24,7 @@ pub fn decode_byte<D: Decoder>(decoder: &mut D) -> Result<u8, DecodeError>
 
 /// Reads a truth value: a byte that is 0 or 1.
 pub fn decode_bool<D: Decoder>(decoder: &mut D) -> Result<bool, DecodeError>
-    ensures { Did truth_reading D.C.Policy.meaning D.R.Reader.meaning (D.Decoder.reader decoder.old) (D.Decoder.count decoder.old) result (D.Decoder.reader decoder.new) (D.Decoder.count decoder.new) }
+    ensures { Reads D.Decoder D.C.Policy D.R.Reader truth_reading decoder.old result decoder.new }
 {
     match decode_byte(decoder)? {
         0 => Ok(false),

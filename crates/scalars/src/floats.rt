@@ -1,6 +1,7 @@
 //! The double: its 64 bits in the byte order, in both integer encodings.
 ghost use Rattle.format.specs.Integers.{unsigned_range};
-ghost use Rattle.interfaces.specs.Decodes.{Did, Passes};
+ghost use Rattle.interfaces.specs.Calls.{Reads};
+ghost use Rattle.interfaces.specs.Decodes.{Passes};
 ghost use Rattle.readings.specs.Scalars.{next_double, double_reading};
 
 use format::double::F64;
@@ -11,7 +12,7 @@ use primitives::varint::Width;
 
 // The double in the next eight bytes.
 fn read_double<D: Decoder>(decoder: &mut D) -> Result<F64, DecodeError>
-    ensures did { Did (next_double D.C.Policy.meaning.order) D.C.Policy.meaning D.R.Reader.meaning (D.Decoder.reader decoder.old) (D.Decoder.count decoder.old) result (D.Decoder.reader decoder.new) (D.Decoder.count decoder.new) }
+    ensures did { Reads D.Decoder D.C.Policy D.R.Reader (next_double D.C.Policy.meaning.order) decoder.old result decoder.new }
     ensures range { Passes (λ d. unsigned_range 8 d.bits) result }
 {
     let bits = read_number(decoder, Width::Eight)?;
@@ -20,7 +21,7 @@ fn read_double<D: Decoder>(decoder: &mut D) -> Result<F64, DecodeError>
 
 /// Reads a double.
 pub fn decode_double<D: Decoder>(decoder: &mut D) -> Result<F64, DecodeError>
-    ensures did { Did (double_reading D.C.Policy.meaning.order) D.C.Policy.meaning D.R.Reader.meaning (D.Decoder.reader decoder.old) (D.Decoder.count decoder.old) result (D.Decoder.reader decoder.new) (D.Decoder.count decoder.new) }
+    ensures did { Reads D.Decoder D.C.Policy D.R.Reader (double_reading D.C.Policy.meaning.order) decoder.old result decoder.new }
     ensures range { Passes (λ d. unsigned_range 8 d.bits) result }
 {
     decoder.claim_bytes_read(8)?;

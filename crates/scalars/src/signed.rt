@@ -1,7 +1,8 @@
 //! Signed integers: the number that was read, turned back by two's complement or by the zigzag. One text for all widths.
 ghost use Rattle.std.specs.Prelude.{◌≡◌, ◌+◌, ◌^◌, true};
 ghost use Rattle.format.specs.Integers.{unsigned_range, signed_range, from_zigzag as zigzag-back, from_complement as complement-back};
-ghost use Rattle.interfaces.specs.Decodes.{Did, Passes};
+ghost use Rattle.interfaces.specs.Calls.{Reads};
+ghost use Rattle.interfaces.specs.Decodes.{Passes};
 ghost use Rattle.readings.specs.Integers.{type_width};
 ghost use Rattle.readings.specs.Scalars.{signed_reading};
 
@@ -48,7 +49,7 @@ fn from_zigzag(asked: IntegerType, n: u64) -> i64
 
 /// Reads a signed integer of the type that is asked for.
 pub fn decode_signed<D: Decoder>(decoder: &mut D, asked: IntegerType) -> Result<i64, DecodeError>
-    ensures did { Did (signed_reading asked D.C.Policy.meaning.order D.C.Policy.meaning.encoding) D.C.Policy.meaning D.R.Reader.meaning (D.Decoder.reader decoder.old) (D.Decoder.count decoder.old) result (D.Decoder.reader decoder.new) (D.Decoder.count decoder.new) }
+    ensures did { Reads D.Decoder D.C.Policy D.R.Reader (signed_reading asked D.C.Policy.meaning.order D.C.Policy.meaning.encoding) decoder.old result decoder.new }
     ensures range { Passes (signed_range (type_width asked)) result }
 {
     let n = decode_integer(decoder, asked)?;

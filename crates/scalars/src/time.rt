@@ -1,6 +1,7 @@
 //! The duration: its seconds and then its nanoseconds, which carry into the seconds.
 ghost use Rattle.format.specs.Integers.{unsigned_range};
-ghost use Rattle.interfaces.specs.Decodes.{Did, Passes};
+ghost use Rattle.interfaces.specs.Calls.{Reads};
+ghost use Rattle.interfaces.specs.Decodes.{Passes};
 ghost use Rattle.readings.specs.Scalars.{duration_after, duration_reading};
 
 use format::duration::Duration;
@@ -10,7 +11,7 @@ use parsers::varint::decode_integer;
 
 // The duration of these seconds and of the nanoseconds that come next.
 fn decode_after<D: Decoder>(decoder: &mut D, secs: u64) -> Result<Duration, DecodeError>
-    ensures did { Did (duration_after D.C.Policy.meaning.order D.C.Policy.meaning.encoding secs) D.C.Policy.meaning D.R.Reader.meaning (D.Decoder.reader decoder.old) (D.Decoder.count decoder.old) result (D.Decoder.reader decoder.new) (D.Decoder.count decoder.new) }
+    ensures did { Reads D.Decoder D.C.Policy D.R.Reader (duration_after D.C.Policy.meaning.order D.C.Policy.meaning.encoding secs) decoder.old result decoder.new }
     ensures range { Passes (λ d. unsigned_range 8 d.secs) result }
 {
     let nanos = decode_integer(decoder, IntegerType::U32)? as u32;
@@ -22,7 +23,7 @@ fn decode_after<D: Decoder>(decoder: &mut D, secs: u64) -> Result<Duration, Deco
 
 /// Reads a duration.
 pub fn decode_duration<D: Decoder>(decoder: &mut D) -> Result<Duration, DecodeError>
-    ensures did { Did (duration_reading D.C.Policy.meaning.order D.C.Policy.meaning.encoding) D.C.Policy.meaning D.R.Reader.meaning (D.Decoder.reader decoder.old) (D.Decoder.count decoder.old) result (D.Decoder.reader decoder.new) (D.Decoder.count decoder.new) }
+    ensures did { Reads D.Decoder D.C.Policy D.R.Reader (duration_reading D.C.Policy.meaning.order D.C.Policy.meaning.encoding) decoder.old result decoder.new }
     ensures range { Passes (λ d. unsigned_range 8 d.secs) result }
 {
     let secs = decode_integer(decoder, IntegerType::U64)?;

@@ -1,6 +1,7 @@
 //! Byte strings, handed out in place.
 ghost use Rattle.format.specs.Standing.{StringStands};
-ghost use Rattle.interfaces.specs.Decodes.{Did, lent};
+ghost use Rattle.interfaces.specs.Calls.{Reads};
+ghost use Rattle.interfaces.specs.Decodes.{lent};
 ghost use Rattle.readings.specs.Strings.{bytes_reading, string_reading};
 ghost use Rattle.strings.specs.Strings.{Borrowed, WrittenString};
 
@@ -13,7 +14,7 @@ fn take_claimed<'de, D: BorrowDecoder<'de>>(
     decoder: &mut D,
     n: u64,
 ) -> Result<&'de [u8], DecodeError>
-    ensures { Did (bytes_reading n) D.C.Policy.meaning D.R.Reader.meaning (D.Decoder.reader decoder.old) (D.Decoder.count decoder.old) (lent result) (D.Decoder.reader decoder.new) (D.Decoder.count decoder.new) }
+    ensures { Reads D.Decoder D.C.Policy D.R.Reader (bytes_reading n) decoder.old (lent result) decoder.new }
 {
     decoder.claim_bytes_read(n)?;
     decoder.take_bytes(n as usize)

@@ -6,7 +6,7 @@ pub mod text;
 
 ghost use Rattle.std.specs.Prelude.{[], ◌∷◌, ◌++◌};
 ghost use Rattle.format.specs.Integers.{unsigned_writing};
-ghost use Rattle.interfaces.specs.Pieces.{Offered};
+ghost use Rattle.interfaces.specs.Calls.{Offers};
 ghost use Rattle.strings.specs.Strings.{string_writing};
 
 use format::error::EncodeError;
@@ -15,7 +15,7 @@ use primitives::varint::{Width, encode_unsigned};
 
 /// Encodes a length, and then writes the bytes as one piece.
 fn encode_both<E: Encoder>(length: u64, bytes: &[u8], encoder: &mut E) -> Result<(), EncodeError>
-    ensures { Offered E.W.Writer.meaning (E.Encoder.writer encoder.old) (unsigned_writing 8 E.C.Policy.meaning.order E.C.Policy.meaning.encoding length ++ (bytes.now ∷ [])) result (E.Encoder.writer encoder.new) }
+    ensures { Offers E.Encoder E.W.Writer (unsigned_writing 8 E.C.Policy.meaning.order E.C.Policy.meaning.encoding length ++ (bytes.now ∷ [])) encoder.old result encoder.new }
 {
     encode_unsigned(encoder, Width::Eight, length)?;
     encoder.write(bytes)
@@ -23,14 +23,14 @@ fn encode_both<E: Encoder>(length: u64, bytes: &[u8], encoder: &mut E) -> Result
 
 /// Encodes a byte string.
 pub fn encode_bytes<E: Encoder>(bytes: &[u8], encoder: &mut E) -> Result<(), EncodeError>
-    ensures { Offered E.W.Writer.meaning (E.Encoder.writer encoder.old) (string_writing E.C.Policy.meaning.order E.C.Policy.meaning.encoding bytes.now) result (E.Encoder.writer encoder.new) }
+    ensures { Offers E.Encoder E.W.Writer (string_writing E.C.Policy.meaning.order E.C.Policy.meaning.encoding bytes.now) encoder.old result encoder.new }
 {
     encode_both(bytes.len() as u64, bytes, encoder)
 }
 
 /// Encodes a text, which goes as the byte string of its UTF-8 form. That it is well formed is in its type.
 pub fn encode_str<E: Encoder>(text: &str, encoder: &mut E) -> Result<(), EncodeError>
-    ensures { Offered E.W.Writer.meaning (E.Encoder.writer encoder.old) (string_writing E.C.Policy.meaning.order E.C.Policy.meaning.encoding text.now) result (E.Encoder.writer encoder.new) }
+    ensures { Offers E.Encoder E.W.Writer (string_writing E.C.Policy.meaning.order E.C.Policy.meaning.encoding text.now) encoder.old result encoder.new }
 {
     encode_bytes(text.as_bytes(), encoder)
 }

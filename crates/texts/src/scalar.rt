@@ -1,7 +1,7 @@
 //! Reading a character.
 ghost use Rattle.std.specs.Prelude.{◌≡◌, slice_index};
 ghost use Rattle.format.specs.Refusals.{answer, decode_refusal};
-ghost use Rattle.interfaces.specs.Decodes.{Did};
+ghost use Rattle.interfaces.specs.Calls.{Reads};
 ghost use Rattle.readings.specs.Chars.{not_char, judged_char, after_first, char_reading};
 
 use crate::form::{code_of, form_width, is_form};
@@ -43,7 +43,7 @@ fn judge(form: &[u8]) -> Result<Char, DecodeError>
 
 /// Reads a character after its first byte.
 fn decode_after<D: Decoder>(decoder: &mut D, first: u8) -> Result<Char, DecodeError>
-    ensures { Did (after_first first) D.C.Policy.meaning D.R.Reader.meaning (D.Decoder.reader decoder.old) (D.Decoder.count decoder.old) result (D.Decoder.reader decoder.new) (D.Decoder.count decoder.new) }
+    ensures { Reads D.Decoder D.C.Policy D.R.Reader (after_first first) decoder.old result decoder.new }
 {
     let mut form = [first, 0, 0, 0];
     let width = form_width(first);
@@ -57,7 +57,7 @@ fn decode_after<D: Decoder>(decoder: &mut D, first: u8) -> Result<Char, DecodeEr
 
 /// Reads a character: its first byte, then, after the claim, the others in one read.
 pub fn decode_char<D: Decoder>(decoder: &mut D) -> Result<Char, DecodeError>
-    ensures { Did char_reading D.C.Policy.meaning D.R.Reader.meaning (D.Decoder.reader decoder.old) (D.Decoder.count decoder.old) result (D.Decoder.reader decoder.new) (D.Decoder.count decoder.new) }
+    ensures { Reads D.Decoder D.C.Policy D.R.Reader char_reading decoder.old result decoder.new }
 {
     let mut first = [0u8; 1];
     decoder.read(&mut first)?;

@@ -15,20 +15,20 @@ returns-in-None g c =
     }
 
 -- they are, and hold a number
-pub returns-in-Value : goal.returns-in-Value
-returns-in-Value g c =
+pub returns-in-Ok : goal.returns-in-Ok
+returns-in-Ok g c =
     record {
       did = value_did g.D.R.Reader.laws g.D.C.Policy.meaning c.args.asked g.D.C.Policy.meaning.order (g.D.Decoder.reader c.args.decoder.now) (g.D.Decoder.count c.args.decoder.now) c.type_width.result c.type_width.ensures
-          c.endianness.result c.in-Some.bytes.now c.in-Value.value c.in-Value.used c.endianness.ensures c.in-Some.ensures c.in-Value.ensures.value c.consume.ensures.holds c.consume.ensures.count;
-      range = c.in-Value.ensures.range;
+          c.endianness.result c.in-Some.bytes.now c.in-Ok.value c.in-Ok.used c.endianness.ensures c.in-Some.ensures c.in-Ok.ensures.value c.consume.ensures.holds c.consume.ensures.count;
+      range = c.in-Ok.ensures.range;
     }
 
 -- they are, and their tag is too wide
-pub returns-in-TooWide : goal.returns-in-TooWide
-returns-in-TooWide g c =
+pub returns-in-Err : goal.returns-in-Err
+returns-in-Err g c =
     record {
       did = wide_did g.D.R.Reader.laws g.D.C.Policy.meaning c.args.asked g.D.C.Policy.meaning.order (g.D.Decoder.reader c.args.decoder.now) (g.D.Decoder.count c.args.decoder.now) c.type_width.result c.type_width.ensures
-          c.endianness.result c.in-Some.bytes.now c.in-TooWide.found (InvalidIntegerType c.peek_name.result c.in-TooWide.found) c.endianness.ensures c.in-Some.ensures c.in-TooWide.ensures.value
-          (ap (λ (x : IntegerType). too_wide x c.in-TooWide.found) c.peek_name.ensures);
+          c.endianness.result c.in-Some.bytes.now c.in-Err.found (InvalidIntegerType c.peek_name.result c.in-Err.found) c.endianness.ensures c.in-Some.ensures c.in-Err.ensures.value
+          (ap (λ (x : IntegerType). too_wide x c.in-Err.found) c.peek_name.ensures);
       range = tt;
     }
