@@ -1,2 +1,0 @@
-mod OfScalars
-mod OfCompounds

@@ -10,7 +10,7 @@ ghost use Rattle.format.specs.declared.config.IntEncoding.{IntEncoding as Encodi
 ghost use Rattle.interfaces.specs.Standing.{Stood, Found};
 ghost use Rattle.meanings.specs.Decodes.{Decoded};
 ghost use Rattle.readings.specs.Laws.{Charged};
-ghost use Rattle.standing.specs.Relations.{Stands, WrittenStands};
+ghost use Rattle.meanings.specs.Relations.{Stands, WrittenStands};
 
 use decodes::decode::Decode;
 use elements::element::Element;
@@ -22,10 +22,14 @@ use interfaces::de::decoder::Decoder;
 pub trait Standing: Decode {
     ghost stands: { Order → Encoding → List ℕ → Self → Type 0 };
 
-    /// Does nothing; its promise is that the relation is the type's: a value's writing stands for it, what stands for a value is read as it, and what was
-    /// used in reading a value stands for it.
-    fn standing()
-        ensures { Stands Self.Element.meaning Self.Decode.reading stands };
+    // The relation is the type's: a value's writing stands for it, what stands for a value is read as it, and what was used in reading a value stands for it.
+    ghost law: { Stands Self.Element.meaning Self.Decode.reading stands };
+
+    /// Does nothing; its promise is the law.
+    final fn standing()
+        ensures { Stands Self.Element.meaning Self.Decode.reading stands }
+    {
+    }
 }
 
 /// Decodes a value, and promises both directions: what an accepted decode consumed stands for its value; and where a beginning of the waiting bytes stands for
@@ -37,6 +41,5 @@ pub fn decode_standing<T: Standing, D: Decoder>(decoder: &mut D) -> Result<T, De
     ensures found { Found (T.Standing.stands D.C.Policy.meaning.order D.C.Policy.meaning.encoding) T.Element.meaning.claim D.C.Policy.meaning.limit (D.Decoder.count decoder.old) (D.R.Reader.meaning.waiting (D.Decoder.reader decoder.old)) result (D.R.Reader.meaning.waiting (D.Decoder.reader decoder.new)) }
     ensures written { WrittenStands T.Element.meaning T.Standing.stands }
 {
-    T::standing();
     T::decode(decoder)
 }

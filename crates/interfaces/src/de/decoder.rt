@@ -101,19 +101,19 @@ impl<R: Reader, C: Policy> Decoder for DecoderImpl<R, C> {
     ghost count = { λ d. d.claims.count };
 
     fn claim_bytes_read(&mut self, n: u64) -> Result<(), DecodeError> {
-        match C::byte_limit() {
-            None => Ok(()),
-            Some(limit) => match self.claims.count.checked_add(n) {
-                None => Err(DecodeError::LimitExceeded),
-                Some(total) => {
-                    self.claims.count = total;
-                    if total <= limit {
-                        Ok(())
-                    } else {
-                        Err(DecodeError::LimitExceeded)
-                    }
-                }
-            },
+        let Some(limit) = C::byte_limit() else {
+            return Ok(());
+        };
+        let total = self
+            .claims
+            .count
+            .checked_add(n)
+            .ok_or(DecodeError::LimitExceeded)?;
+        self.claims.count = total;
+        if total <= limit {
+            Ok(())
+        } else {
+            Err(DecodeError::LimitExceeded)
         }
     }
 

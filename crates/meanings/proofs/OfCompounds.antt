@@ -13,7 +13,7 @@ use Rattle.readings.proofs.Standing.{none_writes, some_writes, ok_writes, err_wr
 use Rattle.readings.specs.Compounds.{option_reading, result_reading, bound_reading, pair_reading}
 use Rattle.readings.specs.Laws.{Returns}
 use Rattle.readings.specs.Readings.{Reading}
-use Rattle.standing.specs.Relations.{Stands, WrittenStands}
+use Rattle.meanings.specs.Relations.{Stands, WrittenStands}
 use Rattle.std.proofs.lemmas.Bool.{and_parts}
 use Rattle.std.specs.declared.ops.Bound.TheVariants.{Included, Excluded, Unbounded}
 

@@ -12,7 +12,7 @@ use Rattle.readings.specs.Chars.{char_reading}
 use Rattle.readings.specs.Integers.{type_width, integer_reading}
 use Rattle.readings.specs.Laws.{Returns}
 use Rattle.readings.specs.Scalars.{byte_reading, truth_reading, signed_reading, double_reading, duration_reading}
-use Rattle.standing.specs.Relations.{Stands}
+use Rattle.meanings.specs.Relations.{Stands}
 
 pub byte_stands : Stands byte (λ o i. byte_reading) (λ o i. ByteStands)
 byte_stands = record { writes = λ o i n h. byte_writes n; returns = λ o i. byte_returns; accepts = λ o i. byte_accepts }

@@ -1,5 +1,0 @@
-use Rattle.standing.proofs.OfCompounds.{result_stands}
-use Rattle.standing.proofs.compounds.ResultStanding.standing.Goals as goal
-
-pub returns : goal.returns
-returns g c = result_stands g.T.Element.meaning g.U.Element.meaning g.T.Decode.reading g.U.Decode.reading g.T.Standing.stands g.U.Standing.stands c.standing.ensures c.standing-2.ensures
