@@ -8,6 +8,9 @@ use Rattle.format.specs.declared.error.DecodeError.{DecodeError}
 use Rattle.interfaces.specs.Decodes.{Did, Passes}
 use Rattle.interfaces.specs.Policies.{PolicyMeaning}
 use Rattle.interfaces.specs.Readers.{ReaderMeaning}
+use Rattle.interfaces.specs.declared.config.Policy.{Ghosts as PolicyGhosts}
+use Rattle.interfaces.specs.declared.de.decoder.Decoder.{Ghosts as DecoderGhosts}
+use Rattle.interfaces.specs.declared.de.read.Reader.{Ghosts as ReaderGhosts}
 use Rattle.readings.specs.Claims.{capped}
 use Rattle.readings.specs.Laws.{Returns, Same, Alike, accepted}
 use Rattle.readings.specs.Readings.{Source, Reading}
@@ -27,3 +30,7 @@ pub record ElementLaws {A : Type 0} (e : ElementMeaning A) (f : Endianness → I
 pub record Decoded {A R : Type 0} (e : ElementMeaning A) (f : Endianness → IntEncoding → Reading A) (p : PolicyMeaning) (m : ReaderMeaning R) (r : R) (n : ℕ) (res : Result A DecodeError) (r' : R) (n' : ℕ) : Type 0 where
   pub did : Did (f p.order p.encoding) p m r n res r' n'
   pub good : Passes e.valid res
+
+-- the same of a decoder, said by the ghost members that a bound brings: its own, its policy's and its reader's
+abbrev pub Decodes : {A D R C : Type 0} → DecoderGhosts D R C → PolicyGhosts C → ReaderGhosts R → ElementMeaning A → (Endianness → IntEncoding → Reading A) → D → Result A DecodeError → D → Type 0
+Decodes decoder policy reader e f old res new = Decoded e f policy.meaning reader.meaning (decoder.reader old) (decoder.count old) res (decoder.reader new) (decoder.count new)

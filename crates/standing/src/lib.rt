@@ -4,12 +4,11 @@
 pub mod compounds;
 pub mod scalar_types;
 
-ghost use Rattle.std.specs.Prelude.{ℕ, List, is_ok};
+ghost use Rattle.std.specs.Prelude.{ℕ, List};
 ghost use Rattle.format.specs.declared.config.Endianness.{Endianness as Order};
 ghost use Rattle.format.specs.declared.config.IntEncoding.{IntEncoding as Encoding};
-ghost use Rattle.interfaces.specs.Standing.{Stood, Found};
-ghost use Rattle.meanings.specs.Decodes.{Decoded};
-ghost use Rattle.readings.specs.Laws.{Charged};
+ghost use Rattle.interfaces.specs.Calls.{Charges, StandsFor, Finds};
+ghost use Rattle.meanings.specs.Decodes.{Decodes};
 ghost use Rattle.meanings.specs.Relations.{Stands, WrittenStands};
 
 use decodes::decode::Decode;
@@ -35,10 +34,10 @@ pub trait Standing: Decode {
 /// Decodes a value, and promises both directions: what an accepted decode consumed stands for its value; and where a beginning of the waiting bytes stands for
 /// a value and the claim is granted, that value is given and just that beginning is consumed. And a value's writing stands for it.
 pub fn decode_standing<T: Standing, D: Decoder>(decoder: &mut D) -> Result<T, DecodeError>
-    ensures decoded { Decoded T.Element.meaning T.Decode.reading D.C.Policy.meaning D.R.Reader.meaning (D.Decoder.reader decoder.old) (D.Decoder.count decoder.old) result (D.Decoder.reader decoder.new) (D.Decoder.count decoder.new) }
-    ensures charged { Charged D.C.Policy.meaning.limit (D.R.Reader.meaning.waiting (D.Decoder.reader decoder.old)) (D.Decoder.count decoder.old) (is_ok result) (D.R.Reader.meaning.waiting (D.Decoder.reader decoder.new)) (D.Decoder.count decoder.new) }
-    ensures stood { Stood (T.Standing.stands D.C.Policy.meaning.order D.C.Policy.meaning.encoding) (D.R.Reader.meaning.waiting (D.Decoder.reader decoder.old)) result (D.R.Reader.meaning.waiting (D.Decoder.reader decoder.new)) }
-    ensures found { Found (T.Standing.stands D.C.Policy.meaning.order D.C.Policy.meaning.encoding) T.Element.meaning.claim D.C.Policy.meaning.limit (D.Decoder.count decoder.old) (D.R.Reader.meaning.waiting (D.Decoder.reader decoder.old)) result (D.R.Reader.meaning.waiting (D.Decoder.reader decoder.new)) }
+    ensures decoded { Decodes D.Decoder D.C.Policy D.R.Reader T.Element.meaning T.Decode.reading decoder.old result decoder.new }
+    ensures charged { Charges D.Decoder D.C.Policy D.R.Reader decoder.old result decoder.new }
+    ensures stood { StandsFor D.Decoder D.C.Policy D.R.Reader T.Standing.stands decoder.old result decoder.new }
+    ensures found { Finds D.Decoder D.C.Policy D.R.Reader T.Standing.stands T.Element.meaning.claim decoder.old result decoder.new }
     ensures written { WrittenStands T.Element.meaning T.Standing.stands }
 {
     T::decode(decoder)

@@ -1,7 +1,7 @@
 //! The pair: its first and then its second. The sum types are written by the same text, as a tag and then a value.
 ghost use Rattle.std.specs.Prelude.{◌≡◌, ◌+◌};
 ghost use Rattle.elements.specs.Compounds.{pair};
-ghost use Rattle.elements.specs.Elements.{Encoded, within64};
+ghost use Rattle.elements.specs.Elements.{Encodes, within64};
 
 use crate::element::Element;
 use format::error::EncodeError;
@@ -13,7 +13,7 @@ pub(crate) fn encode_both<T: Element, U: Element, E: Encoder>(
     second: &U,
     encoder: &mut E,
 ) -> Result<(), EncodeError>
-    ensures { Encoded (pair T.Element.meaning U.Element.meaning) E.C.Policy.meaning E.W.Writer.meaning (E.Encoder.writer encoder.old) (first.now, second.now) result (E.Encoder.writer encoder.new) }
+    ensures { Encodes E.Encoder E.C.Policy E.W.Writer (pair T.Element.meaning U.Element.meaning) (first.now, second.now) encoder.old result encoder.new }
 {
     first.encode(encoder)?;
     second.encode(encoder)
@@ -23,10 +23,8 @@ pub(crate) fn encode_both<T: Element, U: Element, E: Encoder>(
 pub(crate) fn claim_both<T: Element, U: Element>(first: &T, second: &U) -> Option<u64>
     ensures { result ≡ within64 (T.Element.meaning.claim first.now + U.Element.meaning.claim second.now) }
 {
-    match (first.claim(), second.claim()) {
-        (Some(a), Some(b)) => a.checked_add(b),
-        _ => None,
-    }
+    let claimed = first.claim()?;
+    claimed.checked_add(second.claim()?)
 }
 
 impl<T: Element, U: Element> Element for (T, U) {
