@@ -1,6 +1,6 @@
 //! The UTF-8 form of a character.
 ghost use Rattle.std.specs.Prelude.{◌≡◌};
-ghost use Rattle.format.specs.Utf8.{utf8, width, continuation as continuation-byte};
+ghost use Rattle.format.specs.Utf8.{utf8, width, continuation};
 ghost use Rattle.interfaces.specs.Calls.{Writes};
 
 use format::error::EncodeError;
@@ -23,7 +23,7 @@ const MAX_THREE_B: u32 = 0x1_0000;
 
 /// The byte that carries the six lowest bits of a number.
 fn continuation(n: u32) -> u8
-    ensures { result ≡ continuation-byte n }
+    ensures { result ≡ continuation n }
 {
     TAG_CONT + (n % 64) as u8
 }

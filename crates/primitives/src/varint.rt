@@ -1,5 +1,5 @@
 //! Integers: fixed at their full width, or variable by their size. One text for all widths.
-ghost use Rattle.format.specs.Integers.{tagged, variable, unsigned_writing, zigzag as zigzagged, signed_writing};
+ghost use Rattle.format.specs.Integers.{tagged, variable, unsigned_writing, zigzag, signed_writing};
 ghost use Rattle.format.specs.Numbers.{bytes};
 ghost use Rattle.interfaces.specs.Calls.{Writes, Offers};
 ghost use Rattle.primitives.specs.Widths.{size};
@@ -87,7 +87,7 @@ pub fn encode_unsigned<E: Encoder>(encoder: &mut E, width: Width, n: u64) -> Res
 
 /// The zigzag: 2n, or -2n - 1 below zero.
 fn zigzag(n: i64) -> u64
-    ensures { result ≡ zigzagged n }
+    ensures { result ≡ zigzag n }
 {
     if n < 0 {
         2 * (!n) as u64 + 1

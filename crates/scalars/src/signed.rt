@@ -1,6 +1,6 @@
 //! Signed integers: the number that was read, turned back by two's complement or by the zigzag. One text for all widths.
 ghost use Rattle.std.specs.Prelude.{◌≡◌, ◌+◌, ◌^◌, true};
-ghost use Rattle.format.specs.Integers.{unsigned_range, signed_range, from_zigzag as zigzag-back, from_complement as complement-back};
+ghost use Rattle.format.specs.Integers.{unsigned_range, signed_range, from_zigzag, from_complement};
 ghost use Rattle.interfaces.specs.Calls.{Reads};
 ghost use Rattle.interfaces.specs.Decodes.{Passes};
 ghost use Rattle.readings.specs.Integers.{type_width};
@@ -26,7 +26,7 @@ fn highest(asked: IntegerType) -> u64
 // Back from two's complement: above the middle, the number less 256^w.
 fn from_complement(asked: IntegerType, n: u64) -> i64
     requires { unsigned_range (type_width asked) n ≡ true }
-    ensures value { result ≡ complement-back (type_width asked) n }
+    ensures value { result ≡ from_complement (type_width asked) n }
     ensures range { signed_range (type_width asked) result ≡ true }
 {
     let highest = highest(asked);
@@ -40,7 +40,7 @@ fn from_complement(asked: IntegerType, n: u64) -> i64
 // Back from the zigzag: n / 2 where n is even, and -(n + 1) / 2 where it is odd.
 fn from_zigzag(asked: IntegerType, n: u64) -> i64
     requires { unsigned_range (type_width asked) n ≡ true }
-    ensures value { result ≡ zigzag-back n }
+    ensures value { result ≡ from_zigzag n }
     ensures range { signed_range (type_width asked) result ≡ true }
 {
     let half = (n / 2) as i64;
