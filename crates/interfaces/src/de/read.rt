@@ -8,8 +8,6 @@ use format::error::DecodeError;
 pub trait Reader {
     ghost meaning: { ReaderMeaning Self };
 
-    ghost laws: { ReaderLaws meaning };
-
     /// Fills the buffer from the front, and those bytes go; where too few wait it refuses, and nothing changes.
     fn read(&mut self, bytes: &mut [u8]) -> Result<(), DecodeError>
         ensures { Read meaning self.old bytes.old result self.new bytes.new };
@@ -21,6 +19,8 @@ pub trait Reader {
     /// Lets n bytes go, or as many as are in view.
     fn consume(&mut self, n: usize)
         ensures { Consumed meaning self.old n self.new };
+
+    ghost laws: { ReaderLaws meaning };
 }
 
 /// A reader over bytes that outlive it, so that it can hand them out instead of copying them.

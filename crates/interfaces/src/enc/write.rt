@@ -8,11 +8,11 @@ use format::error::EncodeError;
 pub trait Writer {
     ghost meaning: { WriterMeaning Self };
 
-    ghost laws: { WriterLaws meaning };
-
     /// Takes the bytes if they number at most what is free; else refuses, and nothing changes.
     fn write(&mut self, bytes: &[u8]) -> Result<(), EncodeError>
         ensures { Written meaning self.old bytes.now result self.new };
+
+    ghost laws: { WriterLaws meaning };
 }
 
 /// A lent writer writes to the one behind the reference.

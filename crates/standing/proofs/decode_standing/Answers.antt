@@ -14,7 +14,7 @@ returns g c =
     record {
       decoded = c.decode.ensures.decoded;
       charged = c.decode.ensures.charged;
-      stood = did_stood g.D.R.Reader.laws g.D.C.Policy.meaning f within S (g.met.T.Standing.law.accepts o i) c.decode.result d;
-      found = did_found g.D.R.Reader.laws g.D.C.Policy.meaning f within S e.claim (g.met.T.Standing.law.returns o i) d;
+      stood = did_stood g.met.D.R.Reader.laws g.D.C.Policy.meaning f within S (g.met.T.Standing.law.accepts o i) c.decode.result d;
+      found = did_found g.met.D.R.Reader.laws g.D.C.Policy.meaning f within S e.claim (g.met.T.Standing.law.returns o i) d;
       written = g.met.T.Standing.law.writes;
     }

@@ -16,7 +16,7 @@ returns-in-Fixed g c =
     record {
       did =
           did_is (ap (integer_reading t o) (sym c.in-Fixed.is ∙ c.integer_encoding.ensures))
-          (did_then g.D.R.Reader.laws (λ _. number_reading o (type_width t)) (claiming_within (type_width t)) (λ _. number_within o (type_width t))
+          (did_then g.met.D.R.Reader.laws (λ _. number_reading o (type_width t)) (claiming_within (type_width t)) (λ _. number_within o (type_width t))
           (did_is (ap claiming c.type_width.ensures) c.in_ok-claim_bytes_read.ensures)
           (did_is (ap (number_reading o) c.width_of.ensures) c.read_number.ensures.did));
       range = range_wider (size c.width_of.result) (type_width t) (omega (arith, c.width_of.ensures)) _ c.read_number.ensures.range;
@@ -30,7 +30,7 @@ returns-in-Variable g c =
     record {
       did =
           did_is (ap (integer_reading t o) (sym c.in-Variable.is ∙ c.integer_encoding.ensures))
-          (did_then g.D.R.Reader.laws (λ _. variable_reading t o) (claiming_within (type_width t)) (λ _. variable_within t o)
+          (did_then g.met.D.R.Reader.laws (λ _. variable_reading t o) (claiming_within (type_width t)) (λ _. variable_within t o)
           (did_is (ap claiming c.type_width.ensures) c.in_ok-claim_bytes_read.ensures)
           c.read_variable.ensures.did);
       range = c.read_variable.ensures.range;

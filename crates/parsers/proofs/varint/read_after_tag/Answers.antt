@@ -31,6 +31,6 @@ returns-in-Err g c =
       did =
           did_is
           (wide_reads c.args.asked g.D.C.Policy.meaning.order c.args.tag c.in-Err.found c.in-Err.ensures)
-          (did_refusing g.D.R.Reader.laws (too_wide c.args.asked c.in-Err.found) (InvalidIntegerType c.args.asked c.in-Err.found) refl);
+          (did_refusing g.met.D.R.Reader.laws (too_wide c.args.asked c.in-Err.found) (InvalidIntegerType c.args.asked c.in-Err.found) refl);
       range = tt;
     }

@@ -11,6 +11,6 @@ returns g c =
     let t = c.args.asked in
     let o = g.D.C.Policy.meaning.order in
     record {
-      did = did_then g.D.R.Reader.laws (λ bs. after_tag t o (get_or bs 0 0)) (taking_within 1) (λ bs. after_within t o (get_or bs 0 0)) c.in_ok-read.ensures.did c.read_after_tag.ensures.did;
+      did = did_then g.met.D.R.Reader.laws (λ bs. after_tag t o (get_or bs 0 0)) (taking_within 1) (λ bs. after_within t o (get_or bs 0 0)) c.in_ok-read.ensures.did c.read_after_tag.ensures.did;
       range = c.read_after_tag.ensures.range;
     }

@@ -9,7 +9,7 @@ use Rattle.readings.specs.Laws.{too_wide}
 pub returns-in-None : goal.returns-in-None
 returns-in-None g c =
     record {
-      did = unseen_did g.D.R.Reader.laws g.D.C.Policy.meaning c.args.asked g.D.C.Policy.meaning.order (g.D.Decoder.reader c.args.decoder.now) (g.D.Decoder.count c.args.decoder.now) c.type_width.result c.type_width.ensures
+      did = unseen_did g.met.D.R.Reader.laws g.D.C.Policy.meaning c.args.asked g.D.C.Policy.meaning.order (g.D.Decoder.reader c.args.decoder.now) (g.D.Decoder.count c.args.decoder.now) c.type_width.result c.type_width.ensures
           c.in-None.ensures c.read_tagged.ensures.did;
       range = c.read_tagged.ensures.range;
     }
@@ -18,7 +18,7 @@ returns-in-None g c =
 pub returns-in-Ok : goal.returns-in-Ok
 returns-in-Ok g c =
     record {
-      did = value_did g.D.R.Reader.laws g.D.C.Policy.meaning c.args.asked g.D.C.Policy.meaning.order (g.D.Decoder.reader c.args.decoder.now) (g.D.Decoder.count c.args.decoder.now) c.type_width.result c.type_width.ensures
+      did = value_did g.met.D.R.Reader.laws g.D.C.Policy.meaning c.args.asked g.D.C.Policy.meaning.order (g.D.Decoder.reader c.args.decoder.now) (g.D.Decoder.count c.args.decoder.now) c.type_width.result c.type_width.ensures
           c.endianness.result c.in-Some.bytes.now c.in-Ok.value c.in-Ok.used c.endianness.ensures c.in-Some.ensures c.in-Ok.ensures.value c.consume.ensures.holds c.consume.ensures.count;
       range = c.in-Ok.ensures.range;
     }
@@ -27,7 +27,7 @@ returns-in-Ok g c =
 pub returns-in-Err : goal.returns-in-Err
 returns-in-Err g c =
     record {
-      did = wide_did g.D.R.Reader.laws g.D.C.Policy.meaning c.args.asked g.D.C.Policy.meaning.order (g.D.Decoder.reader c.args.decoder.now) (g.D.Decoder.count c.args.decoder.now) c.type_width.result c.type_width.ensures
+      did = wide_did g.met.D.R.Reader.laws g.D.C.Policy.meaning c.args.asked g.D.C.Policy.meaning.order (g.D.Decoder.reader c.args.decoder.now) (g.D.Decoder.count c.args.decoder.now) c.type_width.result c.type_width.ensures
           c.endianness.result c.in-Some.bytes.now c.in-Err.found (InvalidIntegerType c.peek_name.result c.in-Err.found) c.endianness.ensures c.in-Some.ensures c.in-Err.ensures.value
           (ap (λ (x : IntegerType). too_wide x c.in-Err.found) c.peek_name.ensures);
       range = tt;

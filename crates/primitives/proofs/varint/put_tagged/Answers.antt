@@ -4,5 +4,5 @@ use Rattle.primitives.proofs.varint.put_tagged.Goals as goal
 -- the tag, and then the number
 pub returns : goal.returns
 returns g c =
-    let laws = g.E.W.Writer.laws in
+    let laws = g.met.E.W.Writer.laws in
     offered_then laws (offered_one laws c.in_ok-write.ensures) (offered_one laws c.put_number.ensures)

@@ -12,7 +12,7 @@ returns g c =
     let o = g.D.C.Policy.meaning.order in
     record {
       did =
-          did_then g.D.R.Reader.laws (λ _. next_double o) (claiming_within 8) (λ _. then_within (number_reading o 8) (λ n. giving (with_bits n)) (number_within o 8) (λ n. giving_within (with_bits n)))
+          did_then g.met.D.R.Reader.laws (λ _. next_double o) (claiming_within 8) (λ _. then_within (number_reading o 8) (λ n. giving (with_bits n)) (number_within o 8) (λ n. giving_within (with_bits n)))
           c.in_ok-claim_bytes_read.ensures c.read_double.ensures.did;
       range = c.read_double.ensures.range;
     }

@@ -13,7 +13,7 @@ returns-in-Ok g c =
     let d = c.in-Ok.duration in
     record {
       did =
-          did_then g.D.R.Reader.laws (duration_of secs) (integer_lawful U32 g.D.C.Policy.meaning.order g.D.C.Policy.meaning.encoding).within (judged_within secs)
-          c.in_ok-nanos.ensures.did (did_is (made_judged secs nanos d c.in-Ok.ensures) (did_giving g.D.R.Reader.laws d));
+          did_then g.met.D.R.Reader.laws (duration_of secs) (integer_lawful U32 g.D.C.Policy.meaning.order g.D.C.Policy.meaning.encoding).within (judged_within secs)
+          c.in_ok-nanos.ensures.did (did_is (made_judged secs nanos d c.in-Ok.ensures) (did_giving g.met.D.R.Reader.laws d));
       range = made_range secs nanos d c.in-Ok.ensures;
     }

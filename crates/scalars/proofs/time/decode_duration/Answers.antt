@@ -11,6 +11,6 @@ returns g c =
     let o = g.D.C.Policy.meaning.order in
     let i = g.D.C.Policy.meaning.encoding in
     record {
-      did = did_then g.D.R.Reader.laws (duration_after o i) (integer_lawful U64 o i).within (after_within o i) c.in_ok-secs.ensures.did c.decode_after.ensures.did;
+      did = did_then g.met.D.R.Reader.laws (duration_after o i) (integer_lawful U64 o i).within (after_within o i) c.in_ok-secs.ensures.did c.decode_after.ensures.did;
       range = c.decode_after.ensures.range;
     }

@@ -9,14 +9,14 @@ use Rattle.strings.proofs.text.borrow_decode.Goals as goal
 pub returns-in_err-bytes : goal.returns-in_err-bytes
 returns-in_err-bytes g c =
     let p = err_from_is_err_and c.from_residual.result c.from_residual.ensures.1 in
-    record { borrowed = rw (p.1, p.2) (text_borrowed g.D.R.Reader.laws g.D.C.Policy.meaning (did_stop text_judging c.in_err-bytes.ensures.borrowed.did)); written = text_written }
+    record { borrowed = rw (p.1, p.2) (text_borrowed g.met.D.R.Reader.laws g.D.C.Policy.meaning (did_stop text_judging c.in_err-bytes.ensures.borrowed.did)); written = text_written }
 
 -- the byte string was given, and then judged
 pub returns : goal.returns
 returns g c = record {
   borrowed =
-      text_borrowed g.D.R.Reader.laws g.D.C.Policy.meaning
-      (did_then g.D.R.Reader.laws text_judging (string_lawful g.D.C.Policy.meaning.order g.D.C.Policy.meaning.encoding).within (λ bs. (judging_lawful bs).within) c.in_ok-bytes.ensures.borrowed.did
-      (judged_did g.D.R.Reader.laws g.D.C.Policy.meaning c.in_ok-bytes.bytes.now c.check_text.result c.check_text.ensures.verdict));
+      text_borrowed g.met.D.R.Reader.laws g.D.C.Policy.meaning
+      (did_then g.met.D.R.Reader.laws text_judging (string_lawful g.D.C.Policy.meaning.order g.D.C.Policy.meaning.encoding).within (λ bs. (judging_lawful bs).within) c.in_ok-bytes.ensures.borrowed.did
+      (judged_did g.met.D.R.Reader.laws g.D.C.Policy.meaning c.in_ok-bytes.bytes.now c.check_text.result c.check_text.ensures.verdict));
   written = text_written;
 }

@@ -7,4 +7,4 @@ use Rattle.texts.proofs.scalar.decode_char.Goals as goal
 
 -- the first byte, and then what it tells
 pub returns : goal.returns
-returns g c = did_then g.D.R.Reader.laws (λ bs. after_first (get_or bs 0 0)) (taking_within 1) (λ bs. after_first_within (get_or bs 0 0)) c.in_ok-read.ensures.did c.decode_after.ensures
+returns g c = did_then g.met.D.R.Reader.laws (λ bs. after_first (get_or bs 0 0)) (taking_within 1) (λ bs. after_first_within (get_or bs 0 0)) c.in_ok-read.ensures.did c.decode_after.ensures
