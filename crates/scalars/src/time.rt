@@ -15,6 +15,7 @@ fn decode_after<D: Decoder>(decoder: &mut D, secs: u64) -> Result<Duration, Deco
     ensures range { Passes (λ d. unsigned_range 8 d.secs) result }
 {
     let nanos = decode_integer(decoder, IntegerType::U32)? as u32;
+    // A match, since a closure in `map_err` asks for a longer proof than these lines for the same answer.
     match Duration::new(secs, nanos) {
         Ok(duration) => Ok(duration),
         Err(_) => Err(DecodeError::InvalidDuration { secs, nanos }),

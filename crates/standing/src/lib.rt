@@ -27,8 +27,7 @@ pub trait Standing: Decode {
     /// Does nothing; its promise is the law.
     final fn standing()
         ensures { Stands Self.Element.meaning Self.Decode.reading stands }
-    {
-    }
+    {}
 }
 
 /// Decodes a value, and promises both directions: what an accepted decode consumed stands for its value; and where a beginning of the waiting bytes stands for

@@ -10,6 +10,7 @@ use format::double::F64;
 use format::duration::Duration;
 use format::scalar::Char;
 
+// One impl to a type, of two lines: the relation and the law.
 impl Standing for u8 {
     ghost stands = { λ o i. ByteStands };
 
