@@ -1,6 +1,6 @@
 -- The count is how many bytes wait.
 use Rattle.std.proofs.Common.{sym, refl}
-use Rattle.readers.proofs.ring.RingReader.counted.Goals as goal
+use Rattle.readers.proofs.ring.RingReader.remaining.Goals as goal
 use Rattle.readers.specs.Rings.{length_waiting}
 
 pub returns : goal.returns
