@@ -1,7 +1,7 @@
 -- What a caller's buffer holds once a slice writer that started at its front has ended.
 use Rattle.std.proofs.Common.{◌≡◌, ℕ, ◌<◌, ◌≤◌, Bool, true, false, leb, List, ◌++◌, length, drop, Ok, Err, Result, sym, refl, ap, ◌∙◌, subst, arith, MutBor, le-leb, leb-false, leb-true}
 use borrow.Author.Tests.{lt-leb}
-use lib.Seq.{sets-eq}
+use lib.Seq.{sets-eq, length-sets}
 use Rattle.format.specs.Refusals.{given, refused, answer, encode_refusal}
 use Rattle.format.specs.declared.error.EncodeError.{EncodeError}
 use Rattle.interfaces.proofs.Leading.{leading_all, leading_fits}
@@ -47,7 +47,7 @@ front_start s a h = record {
   fits = h;
   same = refl;
   holds = sets-eq a s.now 0 (omega arith) ∙ ap (λ n. a ++ drop n s.now) (omega arith);
-  count = omega arith;
+  count = omega (arith, length-sets s.now 0 a);
 }
 
 -- all of the buffer is free at first
