@@ -1,7 +1,7 @@
 use Rattle.std.proofs.Common.{[], ◌∷◌}
 use Rattle.interfaces.proofs.Offers.{offered_one, offered_then, offered_stop}
 use Rattle.std.proofs.lemmas.Result.{err_from_is_err_and}
-use Rattle.strings.proofs.encode_both.Goals as goal
+use Rattle.strings.proofs.encode_bytes.Goals as goal
 
 -- the length was refused
 pub returns-in_err-encode_unsigned : goal.returns-in_err-encode_unsigned
