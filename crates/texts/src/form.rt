@@ -67,6 +67,6 @@ pub(crate) fn code_of(form: &[u8]) -> u32
                 + u32::from(*c - 0x80) * 64
                 + u32::from(*d - 0x80)
         }
-        _ => 0,
+        _ => unreachable!(),
     }
 }

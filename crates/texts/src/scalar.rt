@@ -33,7 +33,7 @@ fn judge(form: &[u8]) -> Result<Char, DecodeError>
     ensures { answer decode_refusal (λ c. c) result ≡ judged_char form.now }
 {
     if is_form(form) {
-        // what a form stands for is a scalar value, so there is a character
+        // What a form stands for is a scalar value, so there is such a character.
         Ok(Char::new(code_of(form)).unwrap())
     } else {
         Err(not_char(form))
