@@ -47,6 +47,7 @@ fn decode_after<D: Decoder>(decoder: &mut D, first: u8) -> Result<Char, DecodeEr
     let Some(width) = form_width(first) else {
         return Err(not_char(&[first]));
     };
+    // An array as long as the longest form, since the library allocates nothing.
     let mut form = [first, 0, 0, 0];
     decoder.claim_bytes_read(width as u64)?;
     decoder.read(&mut form[1..width])?;

@@ -4,6 +4,7 @@ ghost use Rattle.std.specs.Prelude.{◌≤◌, length};
 pub mod methods;
 
 /// Fills a caller's buffer from the front. The bytes from its place on stay as they were, and are what is free.
+// As the readers do, it keeps the caller's buffer whole, with a place in it.
 #[derive(Drop)]
 pub struct SliceWriter<'a> {
     slice: &'a mut [u8],
