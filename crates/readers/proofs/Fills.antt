@@ -1,5 +1,5 @@
 -- What an answer of `fill` says of the ring reader.
-use Rattle.std.proofs.Common.{◌≡◌, ℕ, Bool, true, false, List, ◌++◌, take, drop, Ok, Err, refl, ap, ◌∙◌, arith, Bor}
+use Rattle.std.proofs.Common.{◌≡◌, ℕ, Bool, true, false, List, ◌++◌, take, drop, Ok, Err, refl, ap, ◌∙◌, Bor}
 use Rattle.format.specs.Refusals.{given, refused, ring_refusal}
 use Rattle.format.specs.declared.error.RingError.{RingError}
 use Rattle.std.proofs.lemmas.Bool.Decides.{when_true, when_false}
@@ -9,10 +9,10 @@ use Rattle.readers.specs.declared.ring.RingReader.{RingReader}
 -- an accepted answer says that the start and the count fit, and a refused one that they do not
 fits_from : (b : Bool) (u : Unit) → given u ≡ fill_verdict b → b ≡ true
 fits_from true u e = refl
-fits_from false u e = let z : ◌≡◌ {A = ℕ} 0 1 = cc in absurd (omega arith)
+fits_from false u e = cc
 
 bad_from : (b : Bool) (x : RingError) → refused (ring_refusal x) ≡ fill_verdict b → b ≡ false
-bad_from true x e = let z : ◌≡◌ {A = ℕ} 0 1 = cc in absurd (omega arith)
+bad_from true x e = cc
 bad_from false x e = refl
 
 module _ {r r' : RingReader} {start count : ℕ} where

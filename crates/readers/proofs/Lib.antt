@@ -1,3 +1,2 @@
-mod Cut
 pub mod Fills
 mod Rounds

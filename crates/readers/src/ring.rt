@@ -4,6 +4,7 @@ ghost use Rattle.std.specs.Prelude.{◌-◌, ◌≤◌, length};
 pub mod methods;
 
 /// Reads `count` bytes of a buffer from `start` on, which go on at the buffer's front where its end comes first.
+// The rule of the readers: the caller's bytes are kept whole, with a place in them.
 #[derive(Drop)]
 pub struct RingReader<'a> {
     buffer: &'a [u8],

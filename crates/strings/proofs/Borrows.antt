@@ -11,12 +11,12 @@ use Rattle.interfaces.proofs.Standing.{did_stood, did_found}
 use Rattle.interfaces.specs.Decodes.{Did, lent}
 use Rattle.interfaces.specs.Policies.{PolicyMeaning}
 use Rattle.interfaces.specs.Readers.{ReaderMeaning, ReaderLaws}
-use Rattle.readings.proofs.Strings.{string_lawful, string_returns, string_accepts, string_writes, text_lawful, text_returns, text_accepts}
+use Rattle.readings.proofs.Strings.{string_lawful, string_returns, string_accepts, text_lawful, text_returns, text_accepts}
 use Rattle.readings.specs.Accepts.{Accepts}
 use Rattle.readings.specs.Laws.{Returns, Lawful}
 use Rattle.readings.specs.Readings.{Reading}
 use Rattle.readings.specs.Strings.{string_reading, text_judging, text_reading}
-use Rattle.strings.specs.Strings.{string_claim, Borrowed, WrittenText}
+use Rattle.strings.specs.Strings.{string_claim, Borrowed}
 
 module _ {R : Type 0} {m : ReaderMeaning R} (laws : ReaderLaws m) (p : PolicyMeaning) where
   borrowed : (f : Endianness → IntEncoding → Reading (List ℕ)) (S : Endianness → IntEncoding → List ℕ → List ℕ → Type 0) → Lawful 2 0 0 (f p.order p.encoding) → ((bs v : List ℕ) → S p.order p.encoding bs v → Returns (f p.order p.encoding) bs (string_claim v) v) → Accepts (f p.order p.encoding) (S p.order p.encoding) → {r : R} {n : ℕ} {res : Result (List ℕ) DecodeError} {r' : R} {n' : ℕ} → Did (f p.order p.encoding) p m r n res r' n' → Borrowed f S p m r n res r' n'
@@ -37,6 +37,3 @@ module _ {R : Type 0} {m : ReaderMeaning R} (laws : ReaderLaws m) (p : PolicyMea
   pub judged_did : (bs : List ℕ) (res : Result (Bor (List ℕ)) DecodeError) → answer decode_refusal (λ x. x.now) res ≡ text_verdict bs → {r : R} {n : ℕ} → Did (text_judging bs) p m r n (lent res) r n
   judged_did bs (Ok part) e {r} = record { answers = e; holds = sym (laws.nothing r); counts = refl }
   judged_did bs (Err x) e {r} = record { answers = e; holds = sym (laws.nothing r); counts = refl }
-
-pub text_written : WrittenText TextStands
-text_written o i v h t = record { string = string_writes o i v h; text = t }

@@ -1,5 +1,5 @@
 -- The steps of a character's reading, as a decoder's calls do them.
-use Rattle.std.proofs.Common.{◌≡◌, ℕ, suc, ◌-◌, ◌≤◌, eqb, List, [], ◌∷◌, ◌++◌, length, take, Ok, Err, Result, sym, refl, ap, ◌∙◌, subst, arith, length-take}
+use Rattle.std.proofs.Common.{◌≡◌, ℕ, suc, ◌-◌, ◌<◌, ◌≤◌, eqb, List, [], ◌∷◌, ◌++◌, length, take, Ok, Err, Result, sym, refl, ap, ◌∙◌, subst, arith, length-take}
 use Rattle.format.specs.Refusals.{answer, decode_refusal}
 use Rattle.format.specs.WellFormed.{form_width}
 use Rattle.format.specs.declared.error.DecodeError.{DecodeError}
@@ -23,11 +23,11 @@ first_and w a new rest h e = let k : w ≡ suc (length new) = omega arith in ap 
 pub zeros : (w : ℕ) → w ≤ 4 → length {A = ℕ} (take (w - 1) (0 ∷ 0 ∷ 0 ∷ [])) ≡ w - 1
 zeros w h = simp length-take (omega arith)
 
-module _ {R : Type 0} {m : ReaderMeaning R} (laws : ReaderLaws m) {p : PolicyMeaning} (a w : ℕ) (wide : w ≡ form_width a) (some : w ≡ 0 → ⊥) where
+module _ {R : Type 0} {m : ReaderMeaning R} (laws : ReaderLaws m) {p : PolicyMeaning} (a w : ℕ) (some : 0 < w) (wide : w ≡ form_width a) where
   -- the claim was granted, and then came the rest
   pub did_after_first : {r : R} {n : ℕ} {r₁ : R} {n₁ : ℕ} {res : Result Char DecodeError} {r₂ : R} {n₂ : ℕ} → Did (claiming w) p m r n (Ok tt) r₁ n₁ → Did (after_claim a) p m r₁ n₁ res r₂ n₂ → Did (after_first a) p m r n res r₂ n₂
   did_after_first d e =
-      did_is (sym (cond-false (eqb (form_width a) 0) _ _ (ne_eqb (form_width a) 0 (λ z. some (wide ∙ z)))))
+      did_is (sym (cond-false (eqb (form_width a) 0) _ _ (ne_eqb (form_width a) 0 (λ z. omega arith))))
       (did_then laws (λ _. after_claim a) (claiming_within (form_width a)) (λ _. after_claim_within a) (did_is (ap claiming wide) d) e)
 
   -- the other bytes were read, and all were judged

@@ -13,7 +13,7 @@ use interfaces::de::decoder::Decoder;
 fn byte_at(bytes: &[u8], i: usize) -> u8
     ensures { result ≡ slice_index bytes.now i }
 {
-    if i < bytes.len() { bytes[i] } else { 0 }
+    bytes.get(i).copied().unwrap_or(0)
 }
 
 /// The fault that these bytes are no character's form. Those that were not read are 0.
@@ -32,12 +32,11 @@ fn not_char(bytes: &[u8]) -> DecodeError
 fn judge(form: &[u8]) -> Result<Char, DecodeError>
     ensures { answer decode_refusal (λ c. c) result ≡ judged_char form.now }
 {
-    if !is_form(form) {
-        return Err(not_char(form));
-    }
-    match Char::new(code_of(form)) {
-        Ok(c) => Ok(c),
-        Err(_) => Err(not_char(form)),
+    if is_form(form) {
+        // What a form stands for is a scalar value, so there is such a character.
+        Ok(Char::new(code_of(form)).unwrap())
+    } else {
+        Err(not_char(form))
     }
 }
 
@@ -45,11 +44,11 @@ fn judge(form: &[u8]) -> Result<Char, DecodeError>
 fn decode_after<D: Decoder>(decoder: &mut D, first: u8) -> Result<Char, DecodeError>
     ensures { Reads D.Decoder D.C.Policy D.R.Reader (after_first first) decoder.old result decoder.new }
 {
+    let Some(width) = form_width(first) else {
+        return Err(not_char(&[first]));
+    };
+    // An array as long as the longest form, since the library allocates nothing.
     let mut form = [first, 0, 0, 0];
-    let width = form_width(first);
-    if width == 0 {
-        return Err(not_char(&form[..1]));
-    }
     decoder.claim_bytes_read(width as u64)?;
     decoder.read(&mut form[1..width])?;
     judge(&form[..width])

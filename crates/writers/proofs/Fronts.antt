@@ -1,7 +1,7 @@
 -- What a caller's buffer holds once a slice writer that started at its front has ended.
-use Rattle.std.proofs.Common.{◌≡◌, ℕ, ◌<◌, ◌≤◌, Bool, true, false, leb, List, ◌++◌, length, drop, Ok, Err, Result, sym, refl, ap, ◌∙◌, subst, arith, MutBor, le-leb, leb-false, leb-true}
+use Rattle.std.proofs.Common.{◌≡◌, ℕ, ◌<◌, ◌≤◌, leb, List, ◌++◌, length, drop, Ok, Err, Result, sym, refl, ap, ◌∙◌, subst, arith, MutBor, le-leb}
 use borrow.Author.Tests.{lt-leb}
-use lib.Seq.{sets-eq}
+use lib.Seq.{sets-eq, length-sets}
 use Rattle.format.specs.Refusals.{given, refused, answer, encode_refusal}
 use Rattle.format.specs.declared.error.EncodeError.{EncodeError}
 use Rattle.interfaces.proofs.Leading.{leading_all, leading_fits}
@@ -9,6 +9,7 @@ use Rattle.format.specs.Pieces.{joined}
 use Rattle.interfaces.specs.Pieces.{leading, Offered}
 use Rattle.interfaces.specs.Writers.{Written, verdict}
 use Rattle.std.proofs.lemmas.Bool.{cond-true, cond-false}
+use Rattle.std.proofs.lemmas.Bool.Decides.{nat_tests}
 use Rattle.writers.specs.Slices.{slice_start, slice_free, slice_meaning}
 use Rattle.writers.specs.declared.slice.SliceWriter.{SliceWriter}
 
@@ -28,18 +29,10 @@ pub record Untouched (s : MutBor (List ℕ)) (w : SliceWriter) (bytes : List ℕ
 
 -- what an answer says of the bytes: they fit, or they do not
 fits_from : (n m : ℕ) (u : Unit) → given u ≡ verdict (leb n m) → n ≤ m
-fits_from n m u e = by (leb n m) refl e
-  where
-    by : (b : Bool) → leb n m ≡ b → given u ≡ verdict b → n ≤ m
-    by true h e = leb-true n m h
-    by false h e = let z : ◌≡◌ {A = ℕ} 0 1 = cc in absurd (omega arith)
+fits_from n m u e = grind (arith, nat_tests)
 
 full_from : (n m : ℕ) (x : EncodeError) → refused (encode_refusal x) ≡ verdict (leb n m) → m < n
-full_from n m x e = by (leb n m) refl e
-  where
-    by : (b : Bool) → leb n m ≡ b → refused (encode_refusal x) ≡ verdict b → m < n
-    by true h e = let z : ◌≡◌ {A = ℕ} 0 1 = cc in absurd (omega arith)
-    by false h e = leb-false n m h
+full_from n m x e = grind (arith, nat_tests)
 
 -- the writer that starts at the front, and what is free to it
 front_start : (s : MutBor (List ℕ)) (a : List ℕ) → length a ≤ length s.now → Front s (slice_meaning.takes a (slice_start s)) a
@@ -47,7 +40,7 @@ front_start s a h = record {
   fits = h;
   same = refl;
   holds = sets-eq a s.now 0 (omega arith) ∙ ap (λ n. a ++ drop n s.now) (omega arith);
-  count = omega arith;
+  count = omega (arith, length-sets s.now 0 a);
 }
 
 -- all of the buffer is free at first

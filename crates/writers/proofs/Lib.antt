@@ -1,4 +1,3 @@
 mod Accepted
-mod Cut
 pub mod Fronts
 pub mod Holds

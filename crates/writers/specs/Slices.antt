@@ -1,16 +1,17 @@
 -- What a slice writer means.
-use Rattle.std.proofs.Common.{ap, sym, ◌∙◌, add-zero, add_assoc, arith, length-append}
-use Rattle.std.specs.Prelude.{ℕ, ◌+◌, ◌-◌, List, length, take}
+use Rattle.std.proofs.Common.{ap, ◌∙◌, arith, zero-le, length-append}
+use Rattle.std.specs.Prelude.{◌≡◌, ℕ, ◌+◌, ◌-◌, ◌≤◌, min, List, ◌++◌, length, take, refl}
 use denote.Ref.{MutBor, at_last}
 use Rattle.std.proofs.lemmas.List.Edits.{sets}
 use Rattle.std.proofs.Math.Seq.{length-sets}
 use Rattle.interfaces.specs.Writers.{WriterMeaning, WriterLaws}
+use Rattle.writers.specs.Equal.{same_slice}
 use Rattle.writers.specs.Stored.{sets_append}
 use Rattle.writers.specs.declared.slice.SliceWriter.{SliceWriter}
 
 -- the writer that starts at the front of a buffer
 abbrev pub slice_start : MutBor (List ℕ) → SliceWriter
-slice_start s = record { slice = s; at = 0 }
+slice_start s = record { slice = s; at = 0; within = zero-le }
 
 -- how many bytes are free: those of the buffer from its place on
 abbrev pub slice_free : SliceWriter → ℕ
@@ -20,11 +21,11 @@ slice_free w = length w.slice.now - w.at
 abbrev pub slice_holds : SliceWriter → List ℕ
 slice_holds w = take w.at w.slice.now
 
--- the writer over the same buffer, but with these bytes in it and this place
+-- the writer over the same buffer, but with these bytes in it and this place, or the end where the place is past it
 abbrev pub slice_with : SliceWriter → List ℕ → ℕ → SliceWriter
-slice_with w xs n = record { slice = at_last w.slice xs; at = n }
+slice_with w xs n = record { slice = at_last w.slice xs; at = min n (length xs); within = let h : min n (length xs) ≤ length xs = omega arith in h }
 
--- taking bytes stores them in the buffer from the place on, and moves the place behind them
+-- taking bytes stores them in the buffer from the place on, and moves the place behind them. Of bytes that do not fit, as many as do are stored.
 abbrev pub slice_meaning : WriterMeaning SliceWriter
 slice_meaning = record {
   free = slice_free;
@@ -34,7 +35,11 @@ slice_meaning = record {
 -- nothing, two in a row, and the free count: the buffer keeps its length
 pub slice_laws : WriterLaws slice_meaning
 slice_laws = record {
-  nothing = λ w. ap (slice_with w w.slice.now) (add-zero w.at);
-  joins = λ a b w h i. slice_with w (sets_append w.slice.now w.at a b i) ((add_assoc w.at (length a) (length b) ∙ ap (λ n. w.at + n) (sym (length-append a b))) i);
-  falls = λ a w h. omega (arith, length-sets w.slice.now w.at a);
+  nothing = λ w. same_slice _ _ refl (omega (arith, w.within));
+  joins = λ a b w h. let xs = w.slice.now in let i = w.at in
+      let size = length-sets xs i a in
+      let place : min (i + length a) (length (sets xs i a)) ≡ i + length a = omega (arith, w.within) in
+      let stored : sets (sets xs i a) (min (i + length a) (length (sets xs i a))) b ≡ sets xs i (a ++ b) = ap (λ n. sets (sets xs i a) n b) place ∙ sets_append xs i a b in
+      same_slice _ _ (ap (at_last w.slice) stored) (ap (λ ys. min (min (i + length a) (length (sets xs i a)) + length b) (length ys)) stored ∙ ap (λ n. min n (length (sets xs i (a ++ b)))) (omega (arith, length-append a b)));
+  falls = λ a w h. let xs = w.slice.now in let place : min (w.at + length a) (length (sets xs w.at a)) + slice_free w ≡ length xs + length a = omega (arith, w.within, length-sets xs w.at a) in omega (arith, w.within, length-sets xs w.at a);
 }

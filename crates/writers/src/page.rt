@@ -3,7 +3,7 @@ ghost use Rattle.std.specs.Prelude.{◌≡◌, ◌≤◌, length};
 
 pub mod methods;
 
-// The bytes of a page, and how many of its front are written.
+// The bytes of a page, and how many of its front are written: an array with its length, since the library allocates nothing.
 #[derive(Drop)]
 struct Page {
     bytes: [u8; 256],

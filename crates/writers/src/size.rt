@@ -34,12 +34,9 @@ impl Writer for SizeWriter {
 
     fn write(&mut self, bytes: &[u8]) -> Result<(), EncodeError> {
         let SizeWriter { bytes_written } = self;
-        match bytes_written.checked_add(bytes.len()) {
-            Some(total) => {
-                *bytes_written = total;
-                Ok(())
-            }
-            None => Err(EncodeError::UnexpectedEnd),
-        }
+        *bytes_written = bytes_written
+            .checked_add(bytes.len())
+            .ok_or(EncodeError::UnexpectedEnd)?;
+        Ok(())
     }
 }

@@ -21,8 +21,9 @@ fn copy_both(bytes: &mut [u8], first: &[u8], second: &[u8])
     requires { length bytes.old ≡ length first.now + length second.now }
     ensures { bytes.new ≡ first.now ++ second.now }
 {
-    bytes[..first.len()].copy_from_slice(first);
-    bytes[first.len()..].copy_from_slice(second);
+    let (front, back) = bytes.split_at_mut(first.len());
+    front.copy_from_slice(first);
+    back.copy_from_slice(second);
 }
 
 impl<'a> RingReader<'a> {
@@ -56,31 +57,18 @@ impl<'a> RingReader<'a> {
 
     /// How many bytes wait.
     pub fn remaining(&self) -> usize
-        ensures { result ≡ length (ring_waiting self.now) }
-    {
-        self.counted()
-    }
-
-    // The count, which is how many bytes wait.
-    fn counted(&self) -> usize
         ensures count { result ≡ self.now.count }
         ensures waiting { result ≡ length (ring_waiting self.now) }
     {
         self.count
     }
 
-    // How many of the bytes that wait lie before the buffer's end.
-    fn in_view(&self) -> usize
-        ensures { result ≡ ring_view self.now }
+    // Those of the bytes that wait that lie before the buffer's end.
+    fn view(&self) -> &'a [u8]
+        ensures value { result.now ≡ take (ring_view self.now) (ring_waiting self.now) }
+        ensures len { length result.now ≡ ring_view self.now }
     {
-        (self.buffer.len() - self.start).min(self.count)
-    }
-
-    // The first n bytes that wait, where all of them lie before the buffer's end.
-    fn front(&self, n: usize) -> &'a [u8]
-        requires { n ≤ ring_view self.now }
-        ensures { result.now ≡ take n (ring_waiting self.now) }
-    {
+        let n = (self.buffer.len() - self.start).min(self.count);
         &self.buffer[self.start..self.start + n]
     }
 
@@ -90,8 +78,9 @@ impl<'a> RingReader<'a> {
         ensures value { result.0.now ++ result.1.now ≡ take n (ring_waiting self.now) }
         ensures len { length result.0.now + length result.1.now ≡ n }
     {
-        let first = n.min(self.in_view());
-        (self.front(first), &self.buffer[..n - first])
+        let view = self.view();
+        let first = n.min(view.len());
+        (&view[..first], &self.buffer[..n - first])
     }
 
     // Lets n bytes go.
@@ -114,7 +103,7 @@ impl<'a> Reader for RingReader<'a> {
 
     fn read(&mut self, bytes: &mut [u8]) -> Result<(), DecodeError> {
         let n = bytes.len();
-        let count = self.counted();
+        let count = self.remaining();
         if n > count {
             return Err(DecodeError::UnexpectedEnd {
                 additional: (n - count) as u64,
@@ -127,14 +116,10 @@ impl<'a> Reader for RingReader<'a> {
     }
 
     fn peek_read(&self, n: usize) -> Option<&[u8]> {
-        if n <= self.in_view() {
-            Some(self.front(n))
-        } else {
-            None
-        }
+        self.view().get(..n)
     }
 
     fn consume(&mut self, n: usize) {
-        self.advance(n.min(self.in_view()));
+        self.advance(n.min(self.view().len()));
     }
 }

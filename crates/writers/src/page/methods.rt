@@ -1,5 +1,5 @@
 //! Making a page writer, what it tells, and writing to it.
-ghost use Rattle.std.specs.Prelude.{◌≡◌, ◌-◌, ◌≤◌, length, replicate};
+ghost use Rattle.std.specs.Prelude.{◌≡◌, ◌+◌, ◌≤◌, length, replicate};
 ghost use Rattle.writers.specs.Pages.{page_free, page_meaning, page_laws, added};
 
 use super::{Page, PageWriter};
@@ -10,12 +10,11 @@ use interfaces::enc::write::Writer;
 impl Page {
     // Adds the bytes behind those that are written.
     fn put(&mut self, bytes: &[u8])
-        requires { length bytes.now ≤ 256 - self.old.len }
+        requires { self.old.len + length bytes.now ≤ 256 }
         ensures { self.new ≡ added bytes.now self.old }
     {
-        let at = self.len;
-        store(&mut self.bytes, at, bytes);
-        self.len = at + bytes.len();
+        store(&mut self.bytes, self.len, bytes);
+        self.len += bytes.len();
     }
 }
 

@@ -9,11 +9,12 @@ use Rattle.texts.proofs.scalar.decode_after.Goals as goal
 pub returns-in_err-read : goal.returns-in_err-read
 returns-in_err-read g c =
     let a = c.args.first in
-    let w = c.form_width-width.result in
-    let most : w ≤ 4 = omega (arith, form_width_most a, c.form_width-width.ensures) in
+    let w = c.in-Some.width in
+    let wide = c.in-Some.ensures in
+    let most : w ≤ 4 = omega (arith, form_width_most a) in
     let q = err_from_is_err_and c.from_residual-in_err-read.result c.from_residual-in_err-read.ensures.1 in
-    did_after_first g.met.D.R.Reader.laws a w c.form_width-width.ensures c.if-width-eq0.false c.in_ok-claim_bytes_read.ensures
-    (did_unread g.met.D.R.Reader.laws a w c.form_width-width.ensures c.if-width-eq0.false (length {A = ℕ} (take (w - 1) (0 ∷ 0 ∷ 0 ∷ []))) (zeros w most)
+    did_after_first g.met.D.R.Reader.laws a w wide.0 wide.1 c.in_ok-claim_bytes_read.ensures
+    (did_unread g.met.D.R.Reader.laws a w wide.0 wide.1 (length {A = ℕ} (take (w - 1) (0 ∷ 0 ∷ 0 ∷ []))) (zeros w most)
     (q.1 ∙ ap Err q.2)
     c.in_err-read.ensures.did)
 
@@ -21,11 +22,11 @@ returns-in_err-read g c =
 pub returns : goal.returns
 returns g c =
     let a = c.args.first in
-    let w = c.form_width-width.result in
-    let most : w ≤ 4 = omega (arith, form_width_most a, c.form_width-width.ensures) in
-    let some : 1 ≤ w = omega (arith, c.if-width-eq0.false) in
+    let w = c.in-Some.width in
+    let wide = c.in-Some.ensures in
+    let most : w ≤ 4 = omega (arith, form_width_most a) in
     let read : length c.read.new.bytes ≡ w - 1 = omega (arith, zeros w most, c.read.auto.bytes) in
-    did_after_first g.met.D.R.Reader.laws a w c.form_width-width.ensures c.if-width-eq0.false c.in_ok-claim_bytes_read.ensures
-    (did_judged g.met.D.R.Reader.laws a w c.form_width-width.ensures c.if-width-eq0.false (length {A = ℕ} (take (w - 1) (0 ∷ 0 ∷ 0 ∷ []))) (zeros w most)
+    did_after_first g.met.D.R.Reader.laws a w wide.0 wide.1 c.in_ok-claim_bytes_read.ensures
+    (did_judged g.met.D.R.Reader.laws a w wide.0 wide.1 (length {A = ℕ} (take (w - 1) (0 ∷ 0 ∷ 0 ∷ []))) (zeros w most)
     c.in_ok-read.ensures.did
-    (c.judge.ensures ∙ ap judged_char (first_and w a c.read.new.bytes _ some read)))
+    (c.judge.ensures ∙ ap judged_char (first_and w a c.read.new.bytes _ wide.0 read)))

@@ -1,7 +1,0 @@
--- Each byte is one of the first part or of the second.
-use Rattle.std.proofs.Common.{arith, rules}
-use Rattle.std.proofs.lemmas.List.{places, same_lists}
-use Rattle.readers.proofs.ring.methods.copy_both.Goals as goal
-
-pub returns : goal.returns
-returns c = same_lists _ _ (search (rules, places)) (λ k d h. grind (arith, places))
