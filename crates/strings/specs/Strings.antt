@@ -10,6 +10,9 @@ use Rattle.interfaces.specs.Decodes.{Did}
 use Rattle.interfaces.specs.Policies.{PolicyMeaning}
 use Rattle.interfaces.specs.Readers.{ReaderMeaning}
 use Rattle.interfaces.specs.Standing.{Stood, Found}
+use Rattle.interfaces.specs.declared.config.Policy.{Ghosts as PolicyGhosts}
+use Rattle.interfaces.specs.declared.de.decoder.Decoder.{Ghosts as DecoderGhosts}
+use Rattle.interfaces.specs.declared.de.read.Reader.{Ghosts as ReaderGhosts}
 use Rattle.readings.specs.Laws.{Charged}
 use Rattle.readings.specs.Readings.{Reading}
 
@@ -36,3 +39,7 @@ pub record Borrowed {R : Type 0} (f : Endianness → IntEncoding → Reading (Li
   pub charged : Charged p.limit (m.waiting r) n (is_ok res) (m.waiting r') n'
   pub stood : Stood (S p.order p.encoding) (m.waiting r) res (m.waiting r')
   pub found : Found (S p.order p.encoding) string_claim p.limit n (m.waiting r) res (m.waiting r')
+
+-- the same of a decoder, said by the ghost members that a bound brings: its own, its policy's and its reader's
+abbrev pub Borrows : {D R C : Type 0} → DecoderGhosts D R C → PolicyGhosts C → ReaderGhosts R → (Endianness → IntEncoding → Reading (List ℕ)) → (Endianness → IntEncoding → List ℕ → List ℕ → Type 0) → D → Result (List ℕ) DecodeError → D → Type 0
+Borrows decoder policy reader f S old res new = Borrowed f S policy.meaning reader.meaning (decoder.reader old) (decoder.count old) res (decoder.reader new) (decoder.count new)

@@ -3,7 +3,7 @@ ghost use Rattle.format.specs.Standing.{StringStands};
 ghost use Rattle.interfaces.specs.Calls.{Reads};
 ghost use Rattle.interfaces.specs.Decodes.{lent};
 ghost use Rattle.readings.specs.Strings.{bytes_reading, string_reading};
-ghost use Rattle.strings.specs.Strings.{Borrowed, WrittenString};
+ghost use Rattle.strings.specs.Strings.{Borrows, WrittenString};
 
 use format::error::{DecodeError, IntegerType};
 use interfaces::de::decoder::{BorrowDecoder, Decoder};
@@ -22,7 +22,7 @@ fn take_claimed<'de, D: BorrowDecoder<'de>>(
 
 /// Decodes a byte string: its length, and then a part of the input that lives as long as the input does.
 pub fn borrow_decode<'de, D: BorrowDecoder<'de>>(decoder: &mut D) -> Result<&'de [u8], DecodeError>
-    ensures borrowed { Borrowed string_reading StringStands D.C.Policy.meaning D.R.Reader.meaning (D.Decoder.reader decoder.old) (D.Decoder.count decoder.old) (lent result) (D.Decoder.reader decoder.new) (D.Decoder.count decoder.new) }
+    ensures borrowed { Borrows D.Decoder D.C.Policy D.R.Reader string_reading StringStands decoder.old (lent result) decoder.new }
     ensures written { WrittenString StringStands }
 {
     let length = decode_integer(decoder, IntegerType::U64)?;

@@ -2,7 +2,7 @@
 ghost use Rattle.format.specs.Standing.{TextStands};
 ghost use Rattle.interfaces.specs.Decodes.{lent};
 ghost use Rattle.readings.specs.Strings.{text_reading};
-ghost use Rattle.strings.specs.Strings.{Borrowed, WrittenText};
+ghost use Rattle.strings.specs.Strings.{Borrows, WrittenText};
 
 use crate::bytes;
 use format::error::DecodeError;
@@ -11,7 +11,7 @@ use texts::text::check_text;
 
 /// Decodes a text: a byte string that is well formed by RFC 3629, as a part of the input that lives as long as the input does.
 pub fn borrow_decode<'de, D: BorrowDecoder<'de>>(decoder: &mut D) -> Result<&'de str, DecodeError>
-    ensures borrowed { Borrowed text_reading TextStands D.C.Policy.meaning D.R.Reader.meaning (D.Decoder.reader decoder.old) (D.Decoder.count decoder.old) (lent result) (D.Decoder.reader decoder.new) (D.Decoder.count decoder.new) }
+    ensures borrowed { Borrows D.Decoder D.C.Policy D.R.Reader text_reading TextStands decoder.old (lent result) decoder.new }
     ensures written { WrittenText TextStands }
 {
     let bytes = bytes::borrow_decode(decoder)?;
