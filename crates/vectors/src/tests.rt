@@ -203,12 +203,15 @@ where
 {
     assert!(rt; room <= SIZE);
     let mut buffer = [FILL; SIZE];
-    let stored = store(&mut buffer[..room]);
-    assert_eq!(rt; stored.answer, answer, "in a room of {room}");
-    assert!(rt; bytes.len() <= SIZE);
-    assert_eq!(rt; &buffer[..bytes.len()], bytes, "in a room of {room}");
-    assert_eq!(rt; stored.len, bytes.len(), "in a room of {room}");
-    for b in buffer.iter().skip(bytes.len()) {
+    let len = bytes.len();
+    assert_eq!(rt;
+        store(&mut buffer[..room]),
+        Stored { answer, len },
+        "in a room of {room}"
+    );
+    assert!(rt; len <= SIZE);
+    assert_eq!(rt; &buffer[..len], bytes, "in a room of {room}");
+    for b in buffer.iter().skip(len) {
         assert_eq!(rt; *b, FILL, "in a room of {room}");
     }
     Ok(())
