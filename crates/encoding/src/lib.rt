@@ -12,25 +12,14 @@ use interfaces::enc::write::Writer;
 use writers::slice::SliceWriter;
 
 /// What one encode call did to a buffer.
-#[derive(Clone, Copy)]
+///
+/// The count is no part of the answer, since a refused value leaves bytes too.
+#[derive(Clone, Copy, PartialEq, Eq, Debug)]
 pub struct Stored {
     /// Whether the value was accepted.
     pub answer: Result<(), EncodeError>,
     /// How many bytes it left at the front: of a refused value, those of the pieces before the first that did not fit.
     pub len: usize,
-}
-
-/// Encodes a value into a writer that is handed over, and gives the writer back.
-fn encode_owned<T: Element, W: Writer, C: Policy>(
-    value: &T,
-    writer: W,
-    config: C,
-) -> (Result<(), EncodeError>, W)
-    ensures { Encoded T.Element.meaning C.Policy.meaning W.Writer.meaning writer value.now result.0 result.1 }
-{
-    let mut encoder = EncoderImpl::new(writer, config);
-    let answer = value.encode(&mut encoder);
-    (answer, encoder.into_writer())
 }
 
 /// Encodes a value into a writer under a policy.
@@ -41,7 +30,9 @@ pub fn encode_into_writer<T: Element, W: Writer, C: Policy>(
 ) -> Result<(), EncodeError>
     ensures { Encoded T.Element.meaning C.Policy.meaning W.Writer.meaning writer.old value.now result writer.new }
 {
-    let (answer, _writer) = encode_owned::<T, &mut W, C>(value, writer, config);
+    let mut encoder = EncoderImpl::new(writer, config);
+    let answer = value.encode(&mut encoder);
+    encoder.into_writer();
     answer
 }
 

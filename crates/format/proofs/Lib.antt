@@ -7,3 +7,4 @@ pub mod Durations
 pub mod WellFormed
 pub mod Starts
 pub mod Texts
+pub mod Shown

@@ -1,4 +1,5 @@
 pub mod Refusals
+pub mod Shown
 pub mod Numbers
 pub mod Pieces
 pub mod Integers

@@ -1,7 +1,7 @@
 -- A writing is a list of pieces, each a row of bytes.
-use Rattle.std.specs.Prelude.{ℕ, List, [], ◌∷◌, ◌++◌}
+use Rattle.std.specs.Prelude.{ℕ, List}
+use Rattle.std.specs.List.{concat}
 
 -- the bytes of all pieces in a row
 abbrev pub joined : List (List ℕ) → List ℕ
-joined [] = []
-joined (p ∷ ps) = p ++ joined ps
+joined = concat

@@ -1,4 +1,4 @@
-//! The double: IEEE 754's binary64, held as its bits.
+//! The double: IEEE 754's binary64, held as its bits. By a rule of this project it is a type of its own, and not `f64`, which has one NaN for proofs.
 ghost use Rattle.std.specs.Prelude.{◌≡◌};
 
 pub mod number;

@@ -1,4 +1,4 @@
-//! The span of time.
+//! The span of time. By a rule of this project it is a type of its own, and not `std::time::Duration`.
 ghost use Rattle.std.specs.Prelude.{◌<◌};
 
 pub mod methods;

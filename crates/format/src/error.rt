@@ -1,5 +1,7 @@
 //! The refusals. docs/FORMAT.md has their numbers, and `specs/Refusals.antt` ties them to these cases.
 
+pub mod display;
+
 /// Why an encode was refused.
 #[derive(Clone, Copy, PartialEq, Eq, Debug)]
 pub enum EncodeError {

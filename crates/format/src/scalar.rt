@@ -1,4 +1,4 @@
-//! The character.
+//! The character. By a rule of this project it is a type of its own, and not the `char` of Rattle.
 ghost use Rattle.std.specs.Prelude.{◌≡◌, T};
 ghost use Rattle.format.specs.Scalars.{scalar};
 

@@ -1,5 +1,7 @@
 //! Policies: byte order, integer encoding, limit.
-ghost use Rattle.std.specs.Prelude.{◌≡◌};
+ghost use Rattle.std.specs.Prelude.{◌≡◌, ℕ, Option as Maybe};
+ghost use Rattle.format.specs.declared.config.Endianness.{Endianness as Order};
+ghost use Rattle.format.specs.declared.config.IntEncoding.{IntEncoding as Encoding};
 ghost use Rattle.interfaces.specs.Policies.{PolicyMeaning, Below64};
 
 use format::config::{Endianness, IntEncoding};
@@ -7,10 +9,16 @@ use format::config::{Endianness, IntEncoding};
 pub mod configuration;
 
 /// What encoding and decoding are governed by: three constants. Anybody may add a policy.
-///
-/// A constant of a trait has no name in a clause, so beside each stands a function that answers it, whose contract ties it to the meaning.
 pub trait Policy: Copy {
     ghost meaning: { PolicyMeaning };
+
+    ghost ENDIAN: { Order };
+
+    ghost INT_ENCODING: { Encoding };
+
+    ghost LIMIT: { Maybe ℕ };
+
+    ghost agrees: { meaning ≡ record { order = ENDIAN; encoding = INT_ENCODING; limit = LIMIT } };
 
     /// The byte order.
     const ENDIAN: Endianness;
@@ -20,15 +28,24 @@ pub trait Policy: Copy {
     const LIMIT: Option<u64>;
 
     /// The byte order.
-    fn endianness() -> Endianness
-        ensures { result ≡ meaning.order };
+    final fn endianness() -> Endianness
+        ensures { result ≡ meaning.order }
+    {
+        Self::ENDIAN
+    }
 
     /// The integer encoding.
-    fn integer_encoding() -> IntEncoding
-        ensures { result ≡ meaning.encoding };
+    final fn integer_encoding() -> IntEncoding
+        ensures { result ≡ meaning.encoding }
+    {
+        Self::INT_ENCODING
+    }
 
     /// The limit.
-    fn byte_limit() -> Option<u64>
+    final fn byte_limit() -> Option<u64>
         ensures value { result ≡ meaning.limit }
-        ensures bound { Below64 meaning.limit };
+        ensures bound { Below64 meaning.limit }
+    {
+        Self::LIMIT
+    }
 }

@@ -29,10 +29,10 @@ use writers::page::*;
 use writers::size::*;
 use writers::slice::*;
 
-/// Runs a function on a table: behind its name stand the rows, each on a line and with `;` at its end.
+/// Runs a function on a table: behind its name, and what makes the values if they are not in the rows, stand the rows, each on a line and with `;` at its end.
 macro_rules! table {
-    ($rt:expr; $run:path; $($($cell:expr),*;)*) => {
-        $run($rt, &[$(($($cell),*)),*])
+    ($rt:expr; $run:path $(, $make:expr)?; $($($cell:expr),*;)*) => {
+        $run($rt, &[$(($($cell),*)),*] $(, $make)?)
     };
 }
 
@@ -42,6 +42,30 @@ macro_rules! each {
         $($run($rt, $($cell),*)?;)*
         Ok::<(), Fail>(())
     }};
+}
+
+/// A call with the policy of that name. A policy is a type, so the call is made in an arm for each.
+macro_rules! under {
+    ($under:expr; $config:ident => $call:expr) => {
+        match $under {
+            LV => {
+                let $config = LITTLE_VARIABLE;
+                $call
+            }
+            LF => {
+                let $config = LITTLE_FIXED;
+                $call
+            }
+            BV => {
+                let $config = BIG_VARIABLE;
+                $call
+            }
+            BF => {
+                let $config = BIG_FIXED;
+                $call
+            }
+        }
+    };
 }
 
 mod answers;
@@ -68,7 +92,7 @@ enum Under {
 /// A row of a table: a value, the policy, the room, and then the answer and the bytes.
 type Entry<T> = (T, Under, usize, Answer, &'static [u8]);
 
-/// Encodes a value under a policy into the first `room` bytes of a buffer: it has to give the answer, and to leave the bytes at the front and the rest as it was.
+/// Encodes a value under a policy into the first `room` bytes of a buffer.
 fn row<T: Element, C: Policy>(
     rt: &impl Abort,
     value: &T,
@@ -77,10 +101,9 @@ fn row<T: Element, C: Policy>(
     answer: Answer,
     bytes: &[u8],
 ) -> Result<(), Fail> {
-    assert!(rt; room <= SIZE);
-    let mut buffer = [FILL; SIZE];
-    let stored = encode_into_slice(value, &mut buffer[0..room], config);
-    compare(rt, &buffer, stored, room, answer, bytes)
+    stored(rt, room, answer, bytes, |buffer| {
+        encode_into_slice(value, buffer, config)
+    })
 }
 
 /// A row under the policy of that name.
@@ -92,18 +115,26 @@ fn row_under<T: Element>(
     answer: Answer,
     bytes: &[u8],
 ) -> Result<(), Fail> {
-    match under {
-        LV => row(rt, value, LITTLE_VARIABLE, room, answer, bytes),
-        LF => row(rt, value, LITTLE_FIXED, room, answer, bytes),
-        BV => row(rt, value, BIG_VARIABLE, room, answer, bytes),
-        BF => row(rt, value, BIG_FIXED, room, answer, bytes),
-    }
+    under!(under; config => row(rt, value, config, room, answer, bytes))
 }
 
 /// The rows of a table.
-fn rows<T: Element>(rt: &impl Abort, table: &[Entry<T>]) -> Result<(), Fail> {
-    for (value, under, room, answer, bytes) in table {
-        row_under(rt, value, *under, *room, *answer, bytes)?;
+fn rows<T: Element + Copy>(rt: &impl Abort, table: &[Entry<T>]) -> Result<(), Fail> {
+    rows_made(rt, table, Ok)
+}
+
+/// The rows of a table whose values are made of what stands there.
+fn rows_made<S: Copy, T: Element + Drop, F>(
+    rt: &impl Abort,
+    table: &[Entry<S>],
+    make: F,
+) -> Result<(), Fail>
+where
+    F: Fn(S) -> Result<T, ValueError>,
+    requires { F.IsAlwaysCallable make }
+{
+    for (parts, under, room, answer, bytes) in table {
+        row_under(rt, &make(*parts)?, *under, *room, *answer, bytes)?;
     }
     Ok(())
 }
@@ -117,18 +148,9 @@ fn bytes_row<C: Policy>(
     answer: Answer,
     bytes: &[u8],
 ) -> Result<(), Fail> {
-    assert!(rt; room <= SIZE);
-    let mut buffer = [FILL; SIZE];
-    let (given, writer) = bytes_into(value, SliceWriter::new(&mut buffer[0..room]), config);
-    let len = writer.bytes_written();
-    compare(
-        rt,
-        &buffer,
-        Stored { answer: given, len },
-        room,
-        answer,
-        bytes,
-    )
+    stored(rt, room, answer, bytes, |buffer| {
+        string_stored(buffer, config, |encoder| encode_bytes(value, encoder))
+    })
 }
 
 /// A row of a text.
@@ -140,59 +162,67 @@ fn text_row<C: Policy>(
     answer: Answer,
     bytes: &[u8],
 ) -> Result<(), Fail> {
-    assert!(rt; room <= SIZE);
-    let mut buffer = [FILL; SIZE];
-    let (given, writer) = text_into(value, SliceWriter::new(&mut buffer[0..room]), config);
+    stored(rt, room, answer, bytes, |buffer| {
+        string_stored(buffer, config, |encoder| encode_str(value, encoder))
+    })
+}
+
+/// Encodes to the front of a buffer, as the closure does.
+fn string_stored<'a, C: Policy, F>(buffer: &'a mut [u8], config: C, encode: F) -> Stored
+where
+    F: FnOnce(&mut EncoderImpl<SliceWriter<'a>, C>) -> Answer,
+    requires { F.IsAlwaysCallable encode }
+{
+    let (answer, writer) = encoded(SliceWriter::new(buffer), config, encode);
     let len = writer.bytes_written();
-    compare(
-        rt,
-        &buffer,
-        Stored { answer: given, len },
-        room,
-        answer,
-        bytes,
-    )
+    Stored { answer, len }
 }
 
-/// Encodes a byte string into a writer, and gives the writer back.
-fn bytes_into<W: Writer, C: Policy>(bytes: &[u8], writer: W, config: C) -> (Answer, W) {
+/// Encodes into a writer, as the closure does, and gives the writer back.
+fn encoded<W: Writer, C: Policy, F>(writer: W, config: C, encode: F) -> (Answer, W)
+where
+    F: FnOnce(&mut EncoderImpl<W, C>) -> Answer,
+    requires { F.IsAlwaysCallable encode }
+{
     let mut encoder = EncoderImpl::new(writer, config);
-    let answer = encode_bytes(bytes, &mut encoder);
+    let answer = encode(&mut encoder);
     (answer, encoder.into_writer())
 }
 
-/// Encodes a text into a writer, and gives the writer back.
-fn text_into<W: Writer, C: Policy>(text: &str, writer: W, config: C) -> (Answer, W) {
-    let mut encoder = EncoderImpl::new(writer, config);
-    let answer = encode_str(text, &mut encoder);
-    (answer, encoder.into_writer())
-}
-
-/// Compares what a call into so much room did with what it had to do.
-fn compare(
+/// Stores into the first `room` bytes of a buffer: that has to give the answer, and to leave the bytes at the front and the rest as it was.
+fn stored<F>(
     rt: &impl Abort,
-    buffer: &[u8; SIZE],
-    stored: Stored,
     room: usize,
     answer: Answer,
     bytes: &[u8],
-) -> Result<(), Fail> {
-    assert_eq!(rt; stored.answer, answer, "in a room of {room}");
-    assert!(rt; bytes.len() <= SIZE);
-    assert_eq!(rt; &buffer[..bytes.len()], bytes, "in a room of {room}");
-    assert_eq!(rt; stored.len, bytes.len(), "in a room of {room}");
-    for b in buffer.iter().skip(bytes.len()) {
+    store: F,
+) -> Result<(), Fail>
+where
+    F: FnOnce(&mut [u8]) -> Stored,
+    requires { F.IsAlwaysCallable store }
+{
+    assert!(rt; room <= SIZE);
+    let mut buffer = [FILL; SIZE];
+    let len = bytes.len();
+    assert_eq!(rt;
+        store(&mut buffer[..room]),
+        Stored { answer, len },
+        "in a room of {room}"
+    );
+    assert!(rt; len <= SIZE);
+    assert_eq!(rt; &buffer[..len], bytes, "in a room of {room}");
+    for b in buffer.iter().skip(len) {
         assert_eq!(rt; *b, FILL, "in a room of {room}");
     }
     Ok(())
 }
 
-/// The character with this code.
-fn scalar(code: u32) -> Result<Char, Fail> {
-    Ok(Char::new(code)?)
+/// The character with this code, in a short word for the rows.
+fn scalar(code: u32) -> Result<Char, ValueError> {
+    Char::new(code)
 }
 
-/// The duration of so many seconds and nanoseconds.
-fn span(secs: u64, nanos: u32) -> Result<Duration, Fail> {
-    Ok(Duration::new(secs, nanos)?)
+/// The duration of so many seconds and nanoseconds, in a short word for the rows.
+fn span(secs: u64, nanos: u32) -> Result<Duration, ValueError> {
+    Duration::new(secs, nanos)
 }

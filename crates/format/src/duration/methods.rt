@@ -13,13 +13,13 @@ impl Duration {
     pub fn new(secs: u64, nanos: u32) -> Result<Duration, ValueError>
         ensures { answer value_refusal duration_parts result ≡ made_duration secs nanos }
     {
-        match secs.checked_add((nanos / NANOS_PER_SEC) as u64) {
-            Some(total) => Ok(Duration {
-                secs: total,
-                nanos: nanos % NANOS_PER_SEC,
-            }),
-            None => Err(ValueError::InvalidDuration { secs, nanos }),
-        }
+        let total = secs
+            .checked_add((nanos / NANOS_PER_SEC) as u64)
+            .ok_or(ValueError::InvalidDuration { secs, nanos })?;
+        Ok(Duration {
+            secs: total,
+            nanos: nanos % NANOS_PER_SEC,
+        })
     }
 
     /// Its whole seconds.

@@ -25,3 +25,23 @@ impl Char {
         self.code
     }
 }
+
+/// The character with this code, as `Char::new` makes it.
+impl TryFrom<u32> for Char {
+    type Error = ValueError;
+
+    ghost try_from_gives = { λ code r. answer value_refusal (λ c. c.code) r ≡ made_char code };
+
+    fn try_from(code: u32) -> Result<Char, ValueError> {
+        Char::new(code)
+    }
+}
+
+/// Its code.
+impl From<Char> for u32 {
+    ghost from_gives = { λ c n. n ≡ c.code };
+
+    fn from(c: Char) -> u32 {
+        c.code()
+    }
+}

@@ -1,5 +1,7 @@
 //! Policies put together from a byte order, an integer encoding and a limit, and the five that are supplied.
-ghost use Rattle.std.specs.Prelude.{◌≡◌, ℕ, Some, None, Option as Maybe};
+//!
+//! Each choice is a type, as in bincode: a policy is put together from types, and a const parameter could be a number or a truth value alone.
+ghost use Rattle.std.specs.Prelude.{◌≡◌, ℕ, Some, None, Option as Maybe, refl};
 ghost use Rattle.format.specs.declared.config.Endianness.{Endianness as Order};
 ghost use Rattle.format.specs.declared.config.Endianness.TheVariants.{Little, Big};
 ghost use Rattle.format.specs.declared.config.IntEncoding.{IntEncoding as Encoding};
@@ -11,14 +13,17 @@ use format::config::{Endianness, IntEncoding};
 
 /// A byte order as a type.
 pub trait EndianConfig: Copy {
-    ghost order: { Order };
+    ghost ENDIAN: { Order };
 
     /// The byte order.
     const ENDIAN: Endianness;
 
     /// The byte order.
-    fn endianness() -> Endianness
-        ensures { result ≡ order };
+    final fn endianness() -> Endianness
+        ensures { result ≡ ENDIAN }
+    {
+        Self::ENDIAN
+    }
 }
 
 /// The lowest byte first.
@@ -26,13 +31,9 @@ pub trait EndianConfig: Copy {
 pub struct LittleEndian;
 
 impl EndianConfig for LittleEndian {
-    ghost order = { Little };
+    ghost ENDIAN = { Little };
 
     const ENDIAN: Endianness = Endianness::Little;
-
-    fn endianness() -> Endianness {
-        LittleEndian::ENDIAN
-    }
 }
 
 /// The highest byte first.
@@ -40,25 +41,24 @@ impl EndianConfig for LittleEndian {
 pub struct BigEndian;
 
 impl EndianConfig for BigEndian {
-    ghost order = { Big };
+    ghost ENDIAN = { Big };
 
     const ENDIAN: Endianness = Endianness::Big;
-
-    fn endianness() -> Endianness {
-        BigEndian::ENDIAN
-    }
 }
 
 /// An integer encoding as a type.
 pub trait IntEncodingConfig: Copy {
-    ghost encoding: { Encoding };
+    ghost INT_ENCODING: { Encoding };
 
     /// The integer encoding.
     const INT_ENCODING: IntEncoding;
 
     /// The integer encoding.
-    fn integer_encoding() -> IntEncoding
-        ensures { result ≡ encoding };
+    final fn integer_encoding() -> IntEncoding
+        ensures { result ≡ INT_ENCODING }
+    {
+        Self::INT_ENCODING
+    }
 }
 
 /// Integers in as few bytes as their size asks for.
@@ -66,13 +66,9 @@ pub trait IntEncodingConfig: Copy {
 pub struct Varint;
 
 impl IntEncodingConfig for Varint {
-    ghost encoding = { Variable };
+    ghost INT_ENCODING = { Variable };
 
     const INT_ENCODING: IntEncoding = IntEncoding::Variable;
-
-    fn integer_encoding() -> IntEncoding {
-        Varint::INT_ENCODING
-    }
 }
 
 /// Integers at the full width of their type.
@@ -80,26 +76,25 @@ impl IntEncodingConfig for Varint {
 pub struct Fixint;
 
 impl IntEncodingConfig for Fixint {
-    ghost encoding = { Fixed };
+    ghost INT_ENCODING = { Fixed };
 
     const INT_ENCODING: IntEncoding = IntEncoding::Fixed;
-
-    fn integer_encoding() -> IntEncoding {
-        Fixint::INT_ENCODING
-    }
 }
 
 /// A limit as a type.
 pub trait LimitConfig: Copy {
-    ghost limit: { Maybe ℕ };
+    ghost LIMIT: { Maybe ℕ };
 
     /// The limit, if there is one.
     const LIMIT: Option<u64>;
 
     /// The limit, if there is one.
-    fn byte_limit() -> Option<u64>
-        ensures value { result ≡ limit }
-        ensures bound { Below64 limit };
+    final fn byte_limit() -> Option<u64>
+        ensures value { result ≡ LIMIT }
+        ensures bound { Below64 LIMIT }
+    {
+        Self::LIMIT
+    }
 }
 
 /// No limit.
@@ -107,13 +102,9 @@ pub trait LimitConfig: Copy {
 pub struct NoLimit;
 
 impl LimitConfig for NoLimit {
-    ghost limit = { None };
+    ghost LIMIT = { None };
 
     const LIMIT: Option<u64> = None;
-
-    fn byte_limit() -> Option<u64> {
-        NoLimit::LIMIT
-    }
 }
 
 /// A limit of N bytes.
@@ -121,14 +112,9 @@ impl LimitConfig for NoLimit {
 pub struct Limit<const N: u64>;
 
 impl<const N: u64> LimitConfig for Limit<N> {
-    ghost limit = { Some N };
+    ghost LIMIT = { Some N };
 
     const LIMIT: Option<u64> = Some(N);
-
-    // a constant that names a parameter says nothing to a proof, so the function does not read it
-    fn byte_limit() -> Option<u64> {
-        Some(N)
-    }
 }
 
 /// The policy of a byte order, an integer encoding and a limit.
@@ -143,25 +129,21 @@ pub struct Configuration<E, I, L> {
 }
 
 impl<E: EndianConfig, I: IntEncodingConfig, L: LimitConfig> Policy for Configuration<E, I, L> {
-    ghost meaning = { record { order = E.EndianConfig.order; encoding = I.IntEncodingConfig.encoding; limit = L.LimitConfig.limit } };
+    ghost meaning = { record { order = E.ENDIAN; encoding = I.INT_ENCODING; limit = L.LIMIT } };
+
+    ghost ENDIAN = { E.ENDIAN };
+
+    ghost INT_ENCODING = { I.INT_ENCODING };
+
+    ghost LIMIT = { L.LIMIT };
+
+    ghost agrees = { refl };
 
     const ENDIAN: Endianness = E::ENDIAN;
 
     const INT_ENCODING: IntEncoding = I::INT_ENCODING;
 
     const LIMIT: Option<u64> = L::LIMIT;
-
-    fn endianness() -> Endianness {
-        E::endianness()
-    }
-
-    fn integer_encoding() -> IntEncoding {
-        I::integer_encoding()
-    }
-
-    fn byte_limit() -> Option<u64> {
-        L::byte_limit()
-    }
 }
 
 /// Little-endian, variable integers, no limit.

@@ -40,13 +40,10 @@ fn every_room<T: Element, C: Policy>(
 
 /// How many bytes the pieces have that fit the room.
 fn fitting(ends: &[usize], room: usize) -> usize {
-    let mut len = 0;
-    for end in ends {
-        if *end <= room {
-            len = *end;
-        }
-    }
-    len
+    ends.iter()
+        .filter(|end| **end <= room)
+        .last()
+        .map_or(0, |end| *end)
 }
 
 /// A size writer and a page writer take a value and count this many bytes, and where integers are fixed a decoder claims as many.
@@ -76,18 +73,26 @@ fn writing<T: Element>(
     bytes: &[u8],
     ends: &[usize],
 ) -> Result<(), Fail> {
-    match under {
-        LV => every_room(rt, value, LITTLE_VARIABLE, bytes, ends),
-        LF => every_room(rt, value, LITTLE_FIXED, bytes, ends),
-        BV => every_room(rt, value, BIG_VARIABLE, bytes, ends),
-        BF => every_room(rt, value, BIG_FIXED, bytes, ends),
-    }
+    under!(under; config => every_room(rt, value, config, bytes, ends))
 }
 
 /// The writings of a table.
-fn writings<T: Element>(rt: &impl Abort, table: &[Pieces<T>]) -> Result<(), Fail> {
-    for (value, under, bytes, ends) in table {
-        writing(rt, value, *under, bytes, ends)?;
+fn writings<T: Element + Copy>(rt: &impl Abort, table: &[Pieces<T>]) -> Result<(), Fail> {
+    writings_made(rt, table, Ok)
+}
+
+/// The writings of a table whose values are made of what stands there.
+fn writings_made<S: Copy, T: Element + Drop, F>(
+    rt: &impl Abort,
+    table: &[Pieces<S>],
+    make: F,
+) -> Result<(), Fail>
+where
+    F: Fn(S) -> Result<T, ValueError>,
+    requires { F.IsAlwaysCallable make }
+{
+    for (parts, under, bytes, ends) in table {
+        writing(rt, &make(*parts)?, *under, bytes, ends)?;
     }
     Ok(())
 }

@@ -1,25 +1,9 @@
 //! Characters, durations and doubles.
 use crate::tests::*;
 
-/// The rows of a table of characters, by their codes.
-fn char_rows(rt: &impl Abort, table: &[Entry<u32>]) -> Result<(), Fail> {
-    for (code, under, room, answer, bytes) in table {
-        row_under(rt, &scalar(*code)?, *under, *room, *answer, bytes)?;
-    }
-    Ok(())
-}
-
-/// The rows of a table of durations, by their seconds and nanoseconds.
-fn duration_rows(rt: &impl Abort, table: &[Entry<(u64, u32)>]) -> Result<(), Fail> {
-    for ((secs, nanos), under, room, answer, bytes) in table {
-        row_under(rt, &span(*secs, *nanos)?, *under, *room, *answer, bytes)?;
-    }
-    Ok(())
-}
-
 #[test]
 fn characters(rt: HostRuntime) -> Result<(), Fail> {
-    table! { &rt; char_rows;
+    table! { &rt; rows_made, scalar;
         8364, LV, 20, Ok(()), &[0xe2, 0x82, 0xac];
         128, LF, 8, Ok(()), &[0xc2, 0x80];
         127, BV, 3, Ok(()), &[0x7f];
@@ -33,7 +17,7 @@ fn characters(rt: HostRuntime) -> Result<(), Fail> {
 
 #[test]
 fn durations(rt: HostRuntime) -> Result<(), Fail> {
-    table! { &rt; duration_rows;
+    table! { &rt; rows_made, |(secs, nanos)| span(secs, nanos);
         (1, 5), LV, 20, Ok(()), &[0x01, 0x05];
         (254, 294967295), LV, 20, Ok(()), &[0xfb, 0xfe, 0x00, 0xfc, 0xff, 0xd7, 0x94, 0x11];
         (1, 999999999), BV, 1, Err(UnexpectedEnd), &[0x01];

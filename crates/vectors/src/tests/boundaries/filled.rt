@@ -37,10 +37,18 @@ fn full_page(rt: HostRuntime) -> Result<(), Fail> {
 
 #[test]
 fn page_of_a_string(rt: HostRuntime) -> Result<(), Fail> {
-    let (answer, page) = bytes_into(&[7; 253], PageWriter::new(), LITTLE_VARIABLE);
+    let (answer, page) = encoded(
+        PageWriter::new(),
+        LITTLE_VARIABLE,
+        |e| encode_bytes(&[7; 253], e),
+    );
     assert_eq!(rt; answer, Ok(()));
     assert_eq!(rt; page.remaining(), 0);
-    let (answer, page) = bytes_into(&[7; 254], PageWriter::new(), LITTLE_VARIABLE);
+    let (answer, page) = encoded(
+        PageWriter::new(),
+        LITTLE_VARIABLE,
+        |e| encode_bytes(&[7; 254], e),
+    );
     assert_eq!(rt; answer, Err(UnexpectedEnd));
     assert_eq!(rt; page.bytes_written(), 3);
     Ok(())
@@ -53,9 +61,9 @@ fn size_of_a_record(rt: HostRuntime) -> Result<(), Fail> {
     assert_eq!(rt; one, Ok(()));
     assert_eq!(rt; other, Ok(()));
     assert_eq!(rt; size.bytes_written(), 13);
-    let (answer, size) = bytes_into(&[1, 2, 3, 4, 5], size, LITTLE_VARIABLE);
+    let (answer, size) = encoded(size, LITTLE_VARIABLE, |e| encode_bytes(&[1, 2, 3, 4, 5], e));
     assert_eq!(rt; answer, Ok(()));
-    let (answer, size) = text_into("A-17 Ω", size, LITTLE_VARIABLE);
+    let (answer, size) = encoded(size, LITTLE_VARIABLE, |e| encode_str("A-17 Ω", e));
     assert_eq!(rt; answer, Ok(()));
     assert_eq!(rt; size.bytes_written(), 27);
     Ok(())

@@ -1,17 +1,14 @@
 //! Characters, durations and doubles.
 use crate::tests::boundaries::*;
 
-/// The writings of characters, by their codes.
-fn char_writings(rt: &impl Abort, table: &[(u32, &'static [u8])]) -> Result<(), Fail> {
-    for (code, bytes) in table {
-        one_piece(rt, &scalar(*code)?, bytes)?;
-    }
-    Ok(())
+/// The writing of a character, by its code.
+fn char_piece(rt: &impl Abort, code: u32, bytes: &[u8]) -> Result<(), Fail> {
+    one_piece(rt, &scalar(code)?, bytes)
 }
 
 #[test]
 fn characters(rt: HostRuntime) -> Result<(), Fail> {
-    table! { &rt; char_writings;
+    each! { &rt; char_piece;
         0x00, &[0x00];
         0x7f, &[0x7f];
         0x80, &[0xc2, 0x80];
@@ -25,17 +22,9 @@ fn characters(rt: HostRuntime) -> Result<(), Fail> {
     }
 }
 
-/// The writings of durations, by their seconds and nanoseconds.
-fn duration_writings(rt: &impl Abort, table: &[Pieces<(u64, u32)>]) -> Result<(), Fail> {
-    for ((secs, nanos), under, bytes, ends) in table {
-        writing(rt, &span(*secs, *nanos)?, *under, bytes, ends)?;
-    }
-    Ok(())
-}
-
 #[test]
 fn durations(rt: HostRuntime) -> Result<(), Fail> {
-    table! { &rt; duration_writings;
+    table! { &rt; writings_made, |(secs, nanos)| span(secs, nanos);
         (0, 0), LV, &[0x00, 0x00], &[1, 2];
         (250, 4_294_967_295), LV, &[0xfb, 0xfe, 0x00, 0xfc, 0xff, 0xd7, 0x94, 0x11], &[1, 3, 4, 8];
         (u64::MAX, 999_999_999), LV, &[0xfd, 0xff, 0xff, 0xff, 0xff, 0xff, 0xff, 0xff, 0xff, 0xfc, 0xff, 0xc9, 0x9a, 0x3b], &[1, 9, 10, 14];
