@@ -7,6 +7,7 @@ use encoding::encode_into_slice;
 use interfaces::config::Policy;
 
 /// The bytes that an encode left at the front of sixteen zeros, how many they are, and the value's claim.
+// An array with its length, since nothing is allocated, and since the theorem compares lines whole.
 #[derive(Clone, Copy)]
 pub struct Line {
     /// The bytes, and zeros behind them.

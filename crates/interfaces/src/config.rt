@@ -9,6 +9,7 @@ use format::config::{Endianness, IntEncoding};
 pub mod configuration;
 
 /// What encoding and decoding are governed by: three constants. Anybody may add a policy.
+// Code matches on them: what is matched is a constant of a type, so that one arm is left when it is compiled, and a closure would carry the same two arms.
 pub trait Policy: Copy {
     ghost meaning: { PolicyMeaning };
 

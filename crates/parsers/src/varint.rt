@@ -1,4 +1,7 @@
 //! Integers: fixed at their full width, or variable by their tag. One text for all widths.
+//!
+//! That a number fits its type is a clause of each call and not the promise of a type of its own: which type is asked for is a value here, and what is read is
+//! narrowed at once where it is known.
 ghost use Rattle.std.specs.Prelude.{◌≡◌, ◌+◌, ◌≤◌, true, length, take};
 ghost use Rattle.format.specs.Integers.{unsigned_range};
 ghost use Rattle.format.specs.Numbers.{number};
@@ -115,6 +118,7 @@ pub fn read_number<D: Decoder>(decoder: &mut D, width: Width) -> Result<u64, Dec
     ensures did { Reads D.Decoder D.C.Policy D.R.Reader (number_reading D.C.Policy.meaning.order (size width)) decoder.old result decoder.new }
     ensures range { Passes (unsigned_range (size width)) result }
 {
+    // An arm to a width, so that each has a buffer of its own length.
     match width {
         Width::Two => read_bytes::<2, D>(decoder),
         Width::Four => read_bytes::<4, D>(decoder),
@@ -157,6 +161,7 @@ fn number_at(bytes: &[u8], order: Endianness, width: Width) -> u64
     ensures value { result ≡ number order (take (size width) bytes.now) }
     ensures range { unsigned_range (size width) result ≡ true }
 {
+    // An arm to a width, so that each copies so many bytes and not as many as a variable says.
     match width {
         Width::Two => number_of(order, &bytes[..2]),
         Width::Four => number_of(order, &bytes[..4]),
