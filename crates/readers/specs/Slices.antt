@@ -1,18 +1,14 @@
 -- What a slice reader means.
 use Rattle.std.specs.Prelude.{◌≡◌, ℕ, ◌+◌, min, List, length, drop, refl}
-use Rattle.std.proofs.Common.{sym, ap, ◌∙◌, arith, length-drop, drop-drop}
+use Rattle.std.proofs.Common.{sym, ap, ◌∙◌, arith, zero-le, length-drop, drop-drop}
 use Rattle.std.specs.Borrow.{Bor}
 use Rattle.interfaces.specs.Readers.{ReaderMeaning, ReaderLaws}
 use Rattle.readers.specs.Equal.{same_slice}
 use Rattle.readers.specs.declared.slice.SliceReader.{SliceReader}
 
--- the reader over these bytes, but with this place, or the end where the place is past it
-abbrev pub slice_at : Bor (List ℕ) → ℕ → SliceReader
-slice_at s n = record { slice = s; at = min n (length s.now); within = omega arith }
-
 -- the reader that starts at the front of the bytes
 abbrev pub slice_front : Bor (List ℕ) → SliceReader
-slice_front s = slice_at s 0
+slice_front s = record { slice = s; at = 0; within = zero-le }
 
 -- the bytes that wait: those from its place on
 abbrev pub slice_waiting : SliceReader → List ℕ
@@ -22,12 +18,16 @@ slice_waiting r = drop r.at r.slice.now
 abbrev pub slice_view : SliceReader → ℕ
 slice_view r = length (slice_waiting r)
 
+-- the reader over the same bytes, but with this place, or the end where the place is past it
+abbrev pub slice_at : SliceReader → ℕ → SliceReader
+slice_at r n = record { slice = r.slice; at = min n (length r.slice.now); within = omega arith }
+
 -- a slice reader, by these; k bytes going moves the place behind them. Of more bytes than wait, those that wait go.
 abbrev pub slice_reader : ReaderMeaning SliceReader
 slice_reader = record {
   waiting = slice_waiting;
   view = slice_view;
-  gone = λ k r. slice_at r.slice (r.at + k);
+  gone = λ k r. slice_at r (r.at + k);
 }
 
 -- the view, none going, what waits behind those that go, and two in a row: all are sums of places

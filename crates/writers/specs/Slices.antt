@@ -37,9 +37,8 @@ pub slice_laws : WriterLaws slice_meaning
 slice_laws = record {
   nothing = λ w. same_slice _ _ refl (omega (arith, w.within));
   joins = λ a b w h. let xs = w.slice.now in let i = w.at in
-      let size = length-sets xs i a in
-      let place : min (i + length a) (length (sets xs i a)) ≡ i + length a = omega (arith, w.within) in
+      let place : min (i + length a) (length (sets xs i a)) ≡ i + length a = omega (arith, w.within, length-sets xs i a) in
       let stored : sets (sets xs i a) (min (i + length a) (length (sets xs i a))) b ≡ sets xs i (a ++ b) = ap (λ n. sets (sets xs i a) n b) place ∙ sets_append xs i a b in
       same_slice _ _ (ap (at_last w.slice) stored) (ap (λ ys. min (min (i + length a) (length (sets xs i a)) + length b) (length ys)) stored ∙ ap (λ n. min n (length (sets xs i (a ++ b)))) (omega (arith, length-append a b)));
-  falls = λ a w h. let xs = w.slice.now in let place : min (w.at + length a) (length (sets xs w.at a)) + slice_free w ≡ length xs + length a = omega (arith, w.within, length-sets xs w.at a) in omega (arith, w.within, length-sets xs w.at a);
+  falls = λ a w h. omega (arith, w.within, length-sets w.slice.now w.at a);
 }
