@@ -9,6 +9,7 @@ pub struct F64 {
     bits: u64,
 }
 
+// The names are those of `f64`'s own methods; `From` would say that a double is a number of 64 bits.
 impl F64 {
     /// The double with these bits.
     pub fn from_bits(bits: u64) -> F64

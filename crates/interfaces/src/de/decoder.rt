@@ -9,6 +9,7 @@ use crate::de::read::{BorrowReader, Reader};
 use format::error::DecodeError;
 
 /// A reader under a policy, with a count of what was claimed. Neither is handed out: bytes come by the calls below alone.
+// These clauses name reader and count apart; the short words of `specs/Calls.antt` are made of this trait's ghosts, so that only code above can use them.
 pub trait Decoder {
     /// The reader inside.
     type R: Reader;

@@ -7,6 +7,7 @@ use crate::enc::write::Writer;
 use format::error::EncodeError;
 
 /// A writer under a policy. Neither is handed out: bytes go in by `write` alone.
+// Its clause names the writer apart; the short words of `specs/Calls.antt` are made of this trait's ghosts, so that only code above can use them.
 pub trait Encoder {
     /// The writer inside.
     type W: Writer;
