@@ -1,5 +1,5 @@
 -- Calls of `decode` that decode a compound type: a tag or a first part that was given, and then a part.
-use Rattle.std.proofs.Common.{◌≡◌, ℕ, Bool, true, Some, Ok, Err, Result, sym, refl, ap, ◌∙◌}
+use Rattle.std.proofs.Common.{◌≡◌, ℕ, Bool, true, Some, Ok, Err, Result, sym, refl, ap, ◌∙◌, subst}
 use Rattle.format.specs.declared.error.DecodeError.{DecodeError}
 use Rattle.format.specs.declared.error.IntegerType.TheVariants.{U32}
 use Rattle.interfaces.proofs.Doing.{did_then, did_stop, did_is, did_giving}
@@ -22,6 +22,8 @@ use Rattle.readings.specs.Integers.{integer_reading}
 use Rattle.readings.specs.Scalars.{byte_reading}
 use Rattle.readings.specs.Readings.{Reading, giving, ◌then◌}
 use Rattle.std.proofs.lemmas.Bool.{and_from}
+use Rattle.std.proofs.lemmas.Result.{err_from_is_err_and}
+use Rattle.std.specs.Prelude.{IsErrAnd}
 use Rattle.std.specs.declared.ops.Bound.{Bound}
 use Rattle.std.specs.declared.ops.Bound.TheVariants.{Included, Excluded}
 
@@ -29,6 +31,10 @@ use Rattle.std.specs.declared.ops.Bound.TheVariants.{Included, Excluded}
 abbrev pub turned : {A B : Type 0} → (A → B) → Result A DecodeError → Result B DecodeError
 turned h (Ok v) = Ok (h v)
 turned h (Err x) = Err x
+
+-- a call that handed on the fault of a part
+pub handed_on : {A R : Type 0} {m : ReaderMeaning R} {p : PolicyMeaning} {e : ElementMeaning A} {f : Endianness → IntEncoding → Reading A} {r r' : R} {n n' : ℕ} {x : DecodeError} (res : Result A DecodeError) → IsErrAnd res (λ y. y ≡ x) → Decoded e f p m r n (Err x) r' n' → Decoded e f p m r n res r' n'
+handed_on {A} {R} {m} {p} {e} {f} {r} {r'} {n} {n'} res h d = let q = err_from_is_err_and res h in subst (λ (y : Result A DecodeError). Decoded e f p m r n y r' n') (sym (q.1 ∙ ap Err q.2)) d
 
 passes_turned : {A B : Type 0} (t : A → Bool) (u : B → Bool) (h : A → B) → ((v : A) → t v ≡ true → u (h v) ≡ true) → (res : Result A DecodeError) → Passes t res → Passes u (turned h res)
 passes_turned t u h k (Ok v) e = k v e

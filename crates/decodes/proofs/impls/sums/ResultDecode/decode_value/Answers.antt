@@ -1,13 +1,11 @@
 use Rattle.decodes.proofs.impls.sums.ResultDecode.decode_value.Goals as goal
-use Rattle.meanings.proofs.Parts.{ok_decoded, err_decoded}
-use Rattle.std.proofs.lemmas.Result.{err_from_is_err_and}
+use Rattle.meanings.proofs.Parts.{handed_on, ok_decoded, err_decoded}
 use Rattle.std.proofs.Common.{Ok, Err}
 
 -- Ok: its value was refused, and it was given
 pub returns-in_err-decode-in-0 : goal.returns-in_err-decode-in-0
 returns-in_err-decode-in-0 g c =
-    let p = err_from_is_err_and c.from_residual-in_err-decode-in-0.result c.from_residual-in_err-decode-in-0.ensures.1 in
-    rw (p.1, p.2) (ok_decoded g.met.D.R.Reader.laws g.D.C.Policy.meaning g.T.Element.meaning g.U.Element.meaning g.T.Decode.reading g.U.Decode.reading g.met.T.Decode.laws g.met.U.Decode.laws c.in_ok-found.ensures.decoded c.in-0.is (Err c.in_err-decode-in-0.field-0.0) c.in_err-decode-in-0.ensures.decoded)
+    handed_on c.from_residual-in_err-decode-in-0.result c.from_residual-in_err-decode-in-0.ensures.1 (ok_decoded g.met.D.R.Reader.laws g.D.C.Policy.meaning g.T.Element.meaning g.U.Element.meaning g.T.Decode.reading g.U.Decode.reading g.met.T.Decode.laws g.met.U.Decode.laws c.in_ok-found.ensures.decoded c.in-0.is (Err c.in_err-decode-in-0.field-0.0) c.in_err-decode-in-0.ensures.decoded)
 
 pub returns-in_ok-decode-in-0 : goal.returns-in_ok-decode-in-0
 returns-in_ok-decode-in-0 g c = ok_decoded g.met.D.R.Reader.laws g.D.C.Policy.meaning g.T.Element.meaning g.U.Element.meaning g.T.Decode.reading g.U.Decode.reading g.met.T.Decode.laws g.met.U.Decode.laws c.in_ok-found.ensures.decoded c.in-0.is (Ok c.in_ok-decode-in-0.field-0) c.in_ok-decode-in-0.ensures.decoded
@@ -15,8 +13,7 @@ returns-in_ok-decode-in-0 g c = ok_decoded g.met.D.R.Reader.laws g.D.C.Policy.me
 -- Err: its value was refused, and it was given
 pub returns-in_err-decode-in-1 : goal.returns-in_err-decode-in-1
 returns-in_err-decode-in-1 g c =
-    let p = err_from_is_err_and c.from_residual-in_err-decode-in-1.result c.from_residual-in_err-decode-in-1.ensures.1 in
-    rw (p.1, p.2) (err_decoded g.met.D.R.Reader.laws g.D.C.Policy.meaning g.T.Element.meaning g.U.Element.meaning g.T.Decode.reading g.U.Decode.reading g.met.T.Decode.laws g.met.U.Decode.laws c.in_ok-found.ensures.decoded c.in-1.is (Err c.in_err-decode-in-1.field-0.0) c.in_err-decode-in-1.ensures.decoded)
+    handed_on c.from_residual-in_err-decode-in-1.result c.from_residual-in_err-decode-in-1.ensures.1 (err_decoded g.met.D.R.Reader.laws g.D.C.Policy.meaning g.T.Element.meaning g.U.Element.meaning g.T.Decode.reading g.U.Decode.reading g.met.T.Decode.laws g.met.U.Decode.laws c.in_ok-found.ensures.decoded c.in-1.is (Err c.in_err-decode-in-1.field-0.0) c.in_err-decode-in-1.ensures.decoded)
 
 pub returns-in_ok-decode-in-1 : goal.returns-in_ok-decode-in-1
 returns-in_ok-decode-in-1 g c = err_decoded g.met.D.R.Reader.laws g.D.C.Policy.meaning g.T.Element.meaning g.U.Element.meaning g.T.Decode.reading g.U.Decode.reading g.met.T.Decode.laws g.met.U.Decode.laws c.in_ok-found.ensures.decoded c.in-1.is (Ok c.in_ok-decode-in-1.field-0) c.in_ok-decode-in-1.ensures.decoded
