@@ -1,4 +1,4 @@
--- What a policy means, and the one thing that it owes.
+-- What a policy means, and how large a limit is.
 use Rattle.std.specs.Prelude.{ℕ, ◌^◌, ◌<◌, Some, None, Option}
 use Rattle.format.specs.declared.config.Endianness.{Endianness}
 use Rattle.format.specs.declared.config.IntEncoding.{IntEncoding}

@@ -1,3 +1,3 @@
-//! Encoding: writers, encoders, and what can be encoded.
+//! Encoding: writers and encoders.
 pub mod encoder;
 pub mod write;

@@ -22,7 +22,7 @@ const LABELS: [&str; 14] = [
     "14 LV f64 1",
 ];
 
-/// One line of the listing.
+/// One line of the listing. It is printed here and not by `Display`, since its form is this program's, with the label.
 fn print_line(rt: &impl Print, label: &str, line: &Line) -> anyhow::Result<()> {
     print!(rt; "{label} ")?;
     for b in line.bytes.iter().take(line.len) {

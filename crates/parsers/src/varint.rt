@@ -90,6 +90,7 @@ fn number_of(order: Endianness, bytes: &[u8]) -> u64
 {
     let mut eight = [0u8; 8];
     let len = bytes.len();
+    // A closure would carry both arms.
     match order {
         Endianness::Little => {
             eight[..len].copy_from_slice(bytes);
@@ -118,7 +119,7 @@ pub fn read_number<D: Decoder>(decoder: &mut D, width: Width) -> Result<u64, Dec
     ensures did { Reads D.Decoder D.C.Policy D.R.Reader (number_reading D.C.Policy.meaning.order (size width)) decoder.old result decoder.new }
     ensures range { Passes (unsigned_range (size width)) result }
 {
-    // An arm to a width, so that each has a buffer of its own length.
+    // An arm to a width, so that each has a buffer of its own length: one buffer of eight for all was tried, and is slower.
     match width {
         Width::Two => read_bytes::<2, D>(decoder),
         Width::Four => read_bytes::<4, D>(decoder),
@@ -150,6 +151,7 @@ fn read_tagged<D: Decoder>(decoder: &mut D, asked: IntegerType) -> Result<u64, D
     ensures did { Reads D.Decoder D.C.Policy D.R.Reader (tag_first asked D.C.Policy.meaning.order) decoder.old result decoder.new }
     ensures range { Passes (unsigned_range (type_width asked)) result }
 {
+    // The first of the reading's two steps; a call that reads a byte would give a reading of its own.
     let mut tag = [0u8; 1];
     decoder.read(&mut tag)?;
     read_after_tag(decoder, asked, tag[0])
@@ -161,12 +163,7 @@ fn number_at(bytes: &[u8], order: Endianness, width: Width) -> u64
     ensures value { result ≡ number order (take (size width) bytes.now) }
     ensures range { unsigned_range (size width) result ≡ true }
 {
-    // An arm to a width, so that each copies so many bytes and not as many as a variable says.
-    match width {
-        Width::Two => number_of(order, &bytes[..2]),
-        Width::Four => number_of(order, &bytes[..4]),
-        Width::Eight => number_of(order, &bytes[..8]),
-    }
+    number_of(order, &bytes[..width.size()])
 }
 
 /// The number at the front of the bytes in view, of which there is one more than the type has, and how many of them it takes; or the type that a tag stands
@@ -181,7 +178,7 @@ fn parse_seen(
     ensures range { SeenRange asked result }
 {
     match bytes {
-        [] => Err(IntegerType::Reserved),
+        [] => unreachable!(),
         [tag, rest @ ..] => match judge_tag(asked, *tag)? {
             None => Ok((u64::from(*tag), 1)),
             Some(width) => Ok((number_at(rest, order, width), 1 + width.size())),
@@ -216,6 +213,7 @@ pub fn decode_integer<D: Decoder>(decoder: &mut D, asked: IntegerType) -> Result
     ensures range { Passes (unsigned_range (type_width asked)) result }
 {
     decoder.claim_bytes_read(type_width(asked) as u64)?;
+    // A constant of the policy is matched, so one arm is left when this is compiled; a closure would carry both.
     match D::C::integer_encoding() {
         IntEncoding::Fixed => read_number(decoder, width_of(asked)),
         IntEncoding::Variable => read_variable(decoder, asked),

@@ -46,6 +46,7 @@ pub fn put_number<E: Encoder>(encoder: &mut E, width: Width, n: u64) -> Result<(
     ensures { Writes E.Encoder E.W.Writer (bytes E.C.Policy.meaning.order (size width) n) encoder.old result encoder.new }
 {
     let size = width.size();
+    // A constant of the policy is matched, so one arm is left when this is compiled; a closure would carry both.
     match E::C::endianness() {
         Endianness::Little => encoder.write(&n.to_le_bytes()[0..size]),
         Endianness::Big => encoder.write(&n.to_be_bytes()[8 - size..8]),
@@ -79,6 +80,7 @@ fn put_variable<E: Encoder>(encoder: &mut E, n: u64) -> Result<(), EncodeError>
 pub fn encode_unsigned<E: Encoder>(encoder: &mut E, width: Width, n: u64) -> Result<(), EncodeError>
     ensures { Offers E.Encoder E.W.Writer (unsigned_writing (size width) E.C.Policy.meaning.order E.C.Policy.meaning.encoding n) encoder.old result encoder.new }
 {
+    // A constant of the policy is matched, so one arm is left when this is compiled; a closure would carry both.
     match E::C::integer_encoding() {
         IntEncoding::Fixed => put_number(encoder, width, n),
         IntEncoding::Variable => put_variable(encoder, n),
@@ -100,6 +102,7 @@ fn zigzag(n: i64) -> u64
 pub fn encode_signed<E: Encoder>(encoder: &mut E, width: Width, n: i64) -> Result<(), EncodeError>
     ensures { Offers E.Encoder E.W.Writer (signed_writing (size width) E.C.Policy.meaning.order E.C.Policy.meaning.encoding n) encoder.old result encoder.new }
 {
+    // A constant of the policy is matched, so one arm is left when this is compiled; a closure would carry both.
     match E::C::integer_encoding() {
         IntEncoding::Fixed => put_number(encoder, width, n.cast_unsigned()),
         IntEncoding::Variable => put_variable(encoder, zigzag(n)),

@@ -5,7 +5,7 @@ ghost use Rattle.readings.specs.Scalars.{next_byte, byte_reading, truth_reading}
 use format::error::DecodeError;
 use interfaces::de::decoder::Decoder;
 
-// The next byte.
+// The next byte, as a reading of its own.
 fn read_byte<D: Decoder>(decoder: &mut D) -> Result<u8, DecodeError>
     ensures { Reads D.Decoder D.C.Policy D.R.Reader next_byte decoder.old result decoder.new }
 {

@@ -1,4 +1,6 @@
 //! The double: its 64 bits in the byte order, in both integer encodings.
+//!
+//! That the bits are 64 is a clause and no ghost field: to proofs `F64::from_bits` gives the record of any number, and what a double's values are is said by its meaning.
 ghost use Rattle.format.specs.Integers.{unsigned_range};
 ghost use Rattle.interfaces.specs.Calls.{Reads};
 ghost use Rattle.interfaces.specs.Decodes.{Passes};

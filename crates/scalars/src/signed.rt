@@ -1,4 +1,6 @@
 //! Signed integers: the number that was read, turned back by two's complement or by the zigzag. One text for all widths.
+//!
+//! That a number fits its type is a clause here, as in `parsers`, since which type is asked for is a value.
 ghost use Rattle.std.specs.Prelude.{◌≡◌, ◌+◌, ◌^◌, true};
 ghost use Rattle.format.specs.Integers.{unsigned_range, signed_range, from_zigzag, from_complement};
 ghost use Rattle.interfaces.specs.Calls.{Reads};
@@ -10,17 +12,13 @@ use format::config::IntEncoding;
 use format::error::{DecodeError, IntegerType};
 use interfaces::config::Policy;
 use interfaces::de::decoder::Decoder;
-use parsers::varint::decode_integer;
+use parsers::varint::{decode_integer, type_width};
 
 // The highest number of an integer type's width.
 fn highest(asked: IntegerType) -> u64
     ensures { result + 1 ≡ 256 ^ type_width asked }
 {
-    match asked {
-        IntegerType::U16 | IntegerType::I16 => 0xffff,
-        IntegerType::U32 | IntegerType::I32 => 0xffff_ffff,
-        _ => 0xffff_ffff_ffff_ffff,
-    }
+    u64::MAX >> (64 - 8 * type_width(asked))
 }
 
 // Back from two's complement: above the middle, the number less 256^w.
@@ -53,6 +51,7 @@ pub fn decode_signed<D: Decoder>(decoder: &mut D, asked: IntegerType) -> Result<
     ensures range { Passes (signed_range (type_width asked)) result }
 {
     let n = decode_integer(decoder, asked)?;
+    // A constant of the policy is matched, so one arm is left when this is compiled; a closure would carry both.
     match D::C::integer_encoding() {
         IntEncoding::Fixed => Ok(from_complement(asked, n)),
         IntEncoding::Variable => Ok(from_zigzag(asked, n)),

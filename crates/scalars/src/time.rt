@@ -1,4 +1,6 @@
 //! The duration: its seconds and then its nanoseconds, which carry into the seconds.
+//!
+//! That the seconds have 64 bits is a clause and no ghost field, since what a duration's values are is said by its meaning.
 ghost use Rattle.format.specs.Integers.{unsigned_range};
 ghost use Rattle.interfaces.specs.Calls.{Reads};
 ghost use Rattle.interfaces.specs.Decodes.{Passes};

@@ -9,8 +9,8 @@ use format::error::{DecodeError, IntegerType};
 use interfaces::de::decoder::Decoder;
 use scalars::signed::decode_signed;
 
-// One impl to a type. One impl for all integers is to be had, over a trait that each type writes: but each would state the same width there, and two conversions
-// and their laws beside it, in more lines than these; the work itself is one text already, over the width.
+// One impl to a type. One impl for all integers is to be had, over a trait that each type writes: but each would say there what it says in its impls here, with
+// two conversions and the laws that tie them, and the trait would come on top; the work itself is one text already, over the width.
 impl Decode for i16 {
     ghost reading = { signed_reading I16 };
 

@@ -41,6 +41,7 @@ pub trait Decoder {
 
 /// A decoder over bytes that outlive it, so that it can hand them out instead of copying them.
 pub trait BorrowDecoder<'de>: Decoder {
+    // This clause names reader and count apart, as those of `Decoder` do.
     /// The next n bytes, which live as long as the input does.
     fn take_bytes(&mut self, n: usize) -> Result<&'de [u8], DecodeError>
         ensures { Did (taking n) Self.C.Policy.meaning Self.R.Reader.meaning (Self.Decoder.reader self.old) (Self.Decoder.count self.old) (lent result) (Self.Decoder.reader self.new) (Self.Decoder.count self.new) };

@@ -51,6 +51,7 @@ impl Writer for PageWriter {
 
     ghost laws = { page_laws };
 
+    // The steps of the slice writer; one text for both would want a trait for bytes with a place in them, which two types do not make shorter.
     fn write(&mut self, bytes: &[u8]) -> Result<(), EncodeError> {
         if bytes.len() > self.remaining() {
             return Err(EncodeError::UnexpectedEnd);
