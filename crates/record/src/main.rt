@@ -4,6 +4,7 @@
 #![tactic(auto)]
 
 use elements::element::Element;
+use encoding::{Stored, encode_into_slice};
 use format::double::F64;
 use format::duration::Duration;
 use format::error::EncodeError;
@@ -25,11 +26,13 @@ struct Board<'a> {
 
 impl Board<'_> {
     /// Encodes a value behind what is written.
+    // By the call whose contract pins the buffer, so that what is printed is what it promises.
     fn put<T: Element>(&mut self, rt: &impl Print, label: &str, value: &T) -> anyhow::Result<()> {
-        self.put_by(rt, label, |encoder| value.encode(encoder))
+        let stored = encode_into_slice(value, self.free, LITTLE_VARIABLE);
+        self.told(rt, label, stored)
     }
 
-    /// Encodes behind what is written, as the closure does, prints what the call did, and lets go of the bytes that it left.
+    /// Encodes behind what is written, as the closure does.
     fn put_by<F>(&mut self, rt: &impl Print, label: &str, encode: F) -> anyhow::Result<()>
     where
         F: FnOnce(&mut EncoderImpl<SliceWriter<'_>, LV>) -> Result<(), EncodeError>,
@@ -38,11 +41,16 @@ impl Board<'_> {
         let mut encoder = EncoderImpl::new(SliceWriter::new(&mut *self.free), LITTLE_VARIABLE);
         let answer = encode(&mut encoder);
         let len = encoder.into_writer().bytes_written();
-        match answer {
+        self.told(rt, label, Stored { answer, len })
+    }
+
+    /// Prints what a call did, and lets go of the bytes that it left.
+    fn told(&mut self, rt: &impl Print, label: &str, stored: Stored) -> anyhow::Result<()> {
+        match stored.answer {
             Ok(()) => print!(rt; "{label}: ok ")?,
             Err(e) => print!(rt; "{label}: {e} ")?,
         }
-        if let Some(left) = self.free.split_off_mut(..len) {
+        if let Some(left) = self.free.split_off_mut(..stored.len) {
             for b in left.iter() {
                 print!(rt; "{b:02x}")?;
             }
