@@ -61,6 +61,21 @@ text_longer xs k t e =
     let w = form_width (get_or (drop k xs) 0 0) in
     subst Text (sym (take-add k w xs)) (text_append t (subst (λ n. Text (take n (drop k xs))) (add-zero w) (front_text (drop k xs) 0 e none)))
 
+-- the length of the form in front, or 0: where it is 0 there is none, and else that many bytes of it
+pub leading_none : (xs : List ℕ) (w : ℕ) → w ≡ cond (begins_form xs) (form_width (get_or xs 0 0)) 0 → w ≡ 0 → begins_form xs ≡ false
+leading_none xs w e z = by (begins_form xs) (begins_front xs) (sym e ∙ z)
+  where
+    by : (b : Bool) → (b ≡ true → Front xs) → cond b (form_width (get_or xs 0 0)) 0 ≡ 0 → b ≡ false
+    by true f q = let k = f refl in absurd (omega (arith, k.some))
+    by false f q = refl
+
+pub leading_some : (xs : List ℕ) (w : ℕ) → w ≡ cond (begins_form xs) (form_width (get_or xs 0 0)) 0 → (w ≡ 0 → ⊥) → (begins_form xs ≡ true) × (w ≡ form_width (get_or xs 0 0))
+leading_some xs w e n = by (begins_form xs) e
+  where
+    by : (b : Bool) → w ≡ cond b (form_width (get_or xs 0 0)) 0 → (b ≡ true) × (w ≡ form_width (get_or xs 0 0))
+    by true q = (refl, q)
+    by false q = absurd (n q)
+
 -- ---- the longest beginning that is text
 
 chars_text : (n : ℕ) (xs : List ℕ) → (chars_length n xs ≤ length xs) × Text (take (chars_length n xs) xs)

@@ -1,5 +1,5 @@
 -- What the bytes in view hold is what a variable integer's reading says.
-use Rattle.std.proofs.Common.{◌≡◌, ℕ, ◌+◌, ◌<◌, ◌≤◌, leb, List, [], ◌∷◌, length, get_or, take, drop, Some, None, Ok, Err, Option, Result, sym, refl, ap, ◌∙◌, add-one, arith, length-drop, take-take, le-leb}
+use Rattle.std.proofs.Common.{◌≡◌, ℕ, ◌+◌, ◌-◌, ◌<◌, ◌≤◌, leb, List, [], ◌∷◌, length, get_or, take, drop, Some, None, Ok, Err, Option, Result, sym, refl, ap, ◌∙◌, add-one, arith, length-drop, take_all, take-take, le-leb}
 use Rattle.format.specs.Numbers.{number}
 use Rattle.format.specs.Refusals.{given, refused}
 use Rattle.format.specs.declared.config.Endianness.{Endianness}
@@ -13,6 +13,11 @@ use Rattle.readings.specs.Integers.{type_width, peek_name, number_reading, varia
 use Rattle.readings.specs.Laws.{too_wide}
 use Rattle.readings.specs.Readings.{Source, Outcome, outcome, Reading, giving, in_view, moved, resumed}
 use Rattle.std.proofs.lemmas.Bool.{cond-true}
+
+-- the first byte, and the rest as a slice pattern has it
+pub seen_cases : (t : IntegerType) (o : Endianness) (xs : List ℕ) → 0 < length xs → seen_in t o xs ≡ seen_by o (get_or xs 0 0) (take (length xs - 1) (drop 1 xs)) (tag_kind t (get_or xs 0 0))
+seen_cases t o [] h = absurd (omega arith)
+seen_cases t o (x ∷ xs) h = ap (λ ys. seen_by o x ys (tag_kind t x)) (sym (take_all (length (x ∷ xs) - 1) xs (omega arith)))
 
 -- the front of some bytes, parsed
 parsed_front : (t : IntegerType) (o : Endianness) (n : ℕ) (xs : List ℕ) → 0 < length xs → seen_in t o (take (n + 1) xs) ≡ seen_by o (get_or xs 0 0) (take n (drop 1 xs)) (tag_kind t (get_or xs 0 0))

@@ -50,6 +50,14 @@ module _ (t : IntegerType) (o : Endianness) (x : ℕ) where
       by false true k e = let z : ◌≡◌ {A = ℕ} 0 1 = cc in absurd (omega arith)
       by false false k e = let same : w ≡ following_width x = cc in ap (λ v. number_reading o (size v)) same ∙ ap (number_reading o) (sym (k refl refl))
 
+  pub wide_reads : (f : IntegerType) → Err f ≡ tag_kind t x → refusing (too_wide t f) ≡ after_tag t o x
+  wide_reads f e = by (is_wide t x) (ltb x 251) e
+    where
+      by : (a b : Bool) → Err f ≡ kind_by a b → refusing {A = ℕ} (too_wide t f) ≡ reading_by a b
+      by true b e = let same : f ≡ found t x = cc in ap (λ y. refusing {A = ℕ} (too_wide t y)) same
+      by false true e = let z : ◌≡◌ {A = ℕ} 0 1 = cc in absurd (omega arith)
+      by false false e = let z : ◌≡◌ {A = ℕ} 0 1 = cc in absurd (omega arith)
+
   pub number_reads : Ok None ≡ tag_kind t x → giving x ≡ after_tag t o x
   number_reads e = by (is_wide t x) (ltb x 251) e
     where

@@ -13,7 +13,7 @@ opened r n h =
     ∙ ap (take n) (drop-append-le r.start r.buffer.now r.buffer.now (omega (arith, r.inside)))
 
 -- those that lie before the end
-front : (r : RingReader) (n : ℕ) → n ≤ r.count → n + r.start ≤ length r.buffer.now → take n (ring_waiting r) ≡ take n (drop r.start r.buffer.now)
+pub front : (r : RingReader) (n : ℕ) → n ≤ r.count → n + r.start ≤ length r.buffer.now → take n (ring_waiting r) ≡ take n (drop r.start r.buffer.now)
 front r n h l = opened r n h ∙ take-append-le n (drop r.start r.buffer.now) r.buffer.now (simp length-drop (omega arith))
 
 -- those that go m past the end
