@@ -1,3 +1,4 @@
 mod Accepted
+mod Cut
 pub mod Fronts
 pub mod Holds
