@@ -26,7 +26,7 @@ struct Board<'a> {
 
 impl Board<'_> {
     /// Encodes a value behind what is written.
-    // By the call whose contract pins the buffer, so that what is printed is what it promises.
+    // By the call whose contract pins the answer, the count and the buffer. That they are printed as they are is not proved.
     fn put<T: Element>(&mut self, rt: &impl Print, label: &str, value: &T) -> anyhow::Result<()> {
         let stored = encode_into_slice(value, self.free, LITTLE_VARIABLE);
         self.told(rt, label, stored)
